@@ -1,0 +1,101 @@
+-- Laws of `every` and `tab`: a loop's step by step, and what they say at each number.
+-- Assumes nothing.
+use mathlib.Core.Path.{_≡_, refl, sym, ap, ap₂, _∙_}
+use mathlib.Core.Bool.{Bool, true, false, _&&_}
+use mathlib.Core.List.{List, [], _∷_, _++_}
+use Prim.Native.Nat.{ℕ, zero, suc, _+_, _-_, _≤_, _<_}
+use native.Mathlib.Nat.{not-suc-le-zero}
+use native.Mathlib.Numerals.{add-one}
+use native.Mathlib.Decide.{decLt}
+use native.Mathlib.Omega.{arith}
+use lib.ListN.{length, getD, take, set, length-append, List·getD-append}
+use lib.Seq.{getD-at, take-all, take-suc-set}
+use Rattle.numbers.specs.Choice.{every, tab}
+
+-- one number fewer to look at
+gap : (i to : ℕ) → i < to → to - i ≡ suc (to - (i + 1))
+gap i to h = omega arith
+
+-- a loop that goes up from i to `to` and stops at the first number that fails
+module _ (f : ℕ → Bool) (i to : ℕ) where
+  pub every-next : i < to → f i ≡ true → every f i (to - i) ≡ every f (i + 1) (to - (i + 1))
+  unfolding every
+  every-next h e = rw (gap i to h, e, add-one)
+
+  pub every-stop : i < to → f i ≡ false → every f i (to - i) ≡ false
+  unfolding every
+  every-stop h e = rw (gap i to h, e)
+
+  pub every-done : to ≤ i → every f i (to - i) ≡ true
+  unfolding every
+  every-done h = let e : to - i ≡ 0 = omega arith in rw e
+
+pub and-true : (a b : Bool) → a ≡ true → b ≡ true → a && b ≡ true
+and-true a b p q = rw (p, q)
+
+pub and-left : (a b : Bool) → a && b ≡ true → a ≡ true
+and-left true b e = refl
+and-left false b e = e
+
+pub and-right : (a b : Bool) → a && b ≡ true → b ≡ true
+and-right true b e = e
+and-right false b e = let z : false ≡ true = e in cc
+
+-- it holds where each holds, each holds where it holds, and two tests that agree hold alike
+pub every-of : (f : ℕ → Bool) (i n : ℕ) → ((k : ℕ) → i ≤ k → k < i + n → f k ≡ true) → every f i n ≡ true
+unfolding every
+every-of f i zero h = refl
+every-of f i (suc n) h =
+    and-true (f i) (every f (suc i) n) (h i (omega arith) (omega arith))
+    (every-of f (suc i) n (λ k a b. h k (omega arith) (omega arith)))
+
+pub every-at : (f : ℕ → Bool) (i n : ℕ) → every f i n ≡ true → (k : ℕ) → i ≤ k → k < i + n → f k ≡ true
+unfolding every
+every-at f i zero e k a b = let z : ⊥ = omega arith in absurd z
+every-at f i (suc n) e k a b =
+    elim (decLt i k) [
+      | yes h ↦ every-at f (suc i) n (and-right (f i) (every f (suc i) n) e) k h (omega arith)
+      | no h ↦
+          let same : i ≡ k = omega arith in
+          ap f (sym same) ∙ and-left (f i) (every f (suc i) n) e
+    ]
+
+pub every-same : (f g : ℕ → Bool) (i n : ℕ) → ((k : ℕ) → i ≤ k → k < i + n → f k ≡ g k) → every f i n ≡ every g i n
+unfolding every
+every-same f g i zero h = refl
+every-same f g i (suc n) h =
+    ap₂ _&&_ (h i (omega arith) (omega arith)) (every-same f g (suc i) n (λ k a b. h k (omega arith) (omega arith)))
+
+-- the list of f's values
+pub length-tab : (n : ℕ) (f : ℕ → ℕ) → length (tab n f) ≡ n
+unfolding tab
+length-tab zero f = refl
+length-tab (suc n) f =
+    let l : length (tab n f) ≡ n = length-tab n f in
+    length-append (tab n f) (f n ∷ []) ∙ omega arith
+
+pub getD-tab : (n : ℕ) (f : ℕ → ℕ) (k : ℕ) → k < n → getD (tab n f) k 0 ≡ f k
+unfolding tab
+getD-tab zero f k h = absurd (not-suc-le-zero h)
+getD-tab (suc n) f k h =
+    elim (decLt k n) [
+      | yes a ↦
+          let l : k < length (tab n f) = omega (arith, length-tab n f) in
+          List·getD-append (tab n f) (f n ∷ []) 0 k l ∙ getD-tab n f k a
+      | no a ↦
+          let same : n ≡ k = omega arith in
+          getD-at (tab n f) (f n) [] 0 k (length-tab n f ∙ same) ∙ ap f same
+    ]
+
+pub tab-same : (n : ℕ) (f g : ℕ → ℕ) → ((k : ℕ) → k < n → f k ≡ g k) → tab n f ≡ tab n g
+unfolding tab
+tab-same zero f g h = refl
+tab-same (suc n) f g h = ap₂ (λ (l : List ℕ) (a : ℕ). l ++ (a ∷ [])) (tab-same n f g (λ k a. h k (omega arith))) (h n (omega arith))
+
+-- a loop that stores f's values one after the other: what it has stored so far, and the whole
+pub tab-store : (f : ℕ → ℕ) (l : List ℕ) (i v : ℕ) → i < length l → take i l ≡ tab i f → v ≡ f i → take (i + 1) (set l i v) ≡ tab (i + 1) f
+unfolding tab
+tab-store f l i v h e p = rw add-one (take-suc-set l i v h ∙ ap₂ (λ (t : List ℕ) (a : ℕ). t ++ (a ∷ [])) e p)
+
+pub tab-whole : (f : ℕ → ℕ) (l : List ℕ) (n : ℕ) → length l ≡ n → take n l ≡ tab n f → l ≡ tab n f
+tab-whole f l n h e = sym (take-all n l (omega arith)) ∙ e

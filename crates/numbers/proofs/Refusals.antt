@@ -1,0 +1,27 @@
+-- Laws of refusals in their order.
+-- Assumes nothing.
+use mathlib.Core.Path.{_≡_, refl}
+use mathlib.Core.Bool.{Bool, true, false}
+use Prim.Native.Nat.{ℕ, zero, suc}
+use native.Mathlib.Omega.{arith}
+use Rattle.numbers.specs.Choice.{unless, orElse}
+
+-- the first is answered where it is one
+pub orElse-first : (r s : ℕ) → (r ≡ 0 → ⊥) → orElse r s ≡ r
+orElse-first zero s h = absurd (h refl)
+orElse-first (suc r) s h = refl
+
+-- where none is answered, there is neither
+pub orElse-none : (r s : ℕ) → orElse r s ≡ 0 → (r ≡ 0) × (s ≡ 0)
+orElse-none zero s e = (refl, e)
+orElse-none (suc r) s e = absurd (omega arith)
+
+-- a number that is neither's is not answered
+pub orElse-not : (n r s : ℕ) → (r ≡ n → ⊥) → (s ≡ n → ⊥) → orElse r s ≡ n → ⊥
+orElse-not n zero s hr hs e = hs e
+orElse-not n (suc r) s hr hs e = hr e
+
+-- where a test's number is not answered, the test holds
+pub unless-none : (t : Bool) (n : ℕ) → unless t (suc n) ≡ 0 → t ≡ true
+unless-none true n e = refl
+unless-none false n e = absurd (omega arith)
