@@ -42,9 +42,9 @@ checkAt = 508
 unfoldable pub checkOf : List ℕ → ℕ
 checkOf s = sumTo 254 (λ (n : ℕ). wordAt s (2 * n) * (n + 1))
 
--- the reserved bytes, from `used` up to the check, are zero
-unfoldable pub reservedZero : List ℕ → ℕ → Bool
-reservedZero s used = every (λ (i : ℕ). eqb (byteAt s i) 0) used (checkAt - used)
+-- the bytes from `from` up to `to` are zero
+unfoldable pub zerosFrom : List ℕ → ℕ → ℕ → Bool
+zerosFrom s from to = every (λ (i : ℕ). eqb (byteAt s i) 0) from (to - from)
 
 -- why a block is refused, given the number due, its edition and its used bytes
 unfoldable pub blockRefusal : List ℕ → ℕ → ℕ → ℕ → ℕ
@@ -52,7 +52,7 @@ blockRefusal s number edition used =
     firstOf (unless (eqb (fieldAt s checkAt) (checkOf s)) 3
     ∷ unless (eqb (wordAt s editionAt) edition) 4
     ∷ unless (eqb (wordAt s numberAt) number) 5
-    ∷ unless (reservedZero s used) 6
+    ∷ unless (zerosFrom s used checkAt) 6  -- the reserved bytes
     ∷ [])
 
 -- the first n fields of a block

@@ -11,6 +11,11 @@ pub orElse-first : (r s : ℕ) → (r ≡ 0 → ⊥) → orElse r s ≡ r
 orElse-first zero s h = absurd (h refl)
 orElse-first (suc r) s h = refl
 
+-- the last of a list
+pub orElse-last : (r : ℕ) → orElse r 0 ≡ r
+orElse-last zero = refl
+orElse-last (suc r) = refl
+
 -- where none is answered, there is neither
 pub orElse-none : (r s : ℕ) → orElse r s ≡ 0 → (r ≡ 0) × (s ≡ 0)
 orElse-none zero s e = (refl, e)

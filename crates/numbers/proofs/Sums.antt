@@ -3,6 +3,7 @@
 use mathlib.Core.Path.{_≡_, refl, ap, sym, subst, _∙_}
 use Prim.Native.Nat.{ℕ, zero, suc, _+_, _*_, _/_, _∣_, _≤_, _<_}
 use native.Mathlib.Nat.{mul-zero, add-zero, zero-add, le-antisymm, le-of-eq, le-refl, mul-le-mul-left, mul-le-mul-right, mul-pos, le-of-mul-le-mul-left, dvd-mul-left, dvd-mul-right-of-dvd, mul-div-cancel'}
+use native.Mathlib.Numerals.{add-one}
 use native.Mathlib.Decide.{decLt}
 use native.Mathlib.Omega.{arith}
 use Rattle.numbers.specs.Sums.{sumTo, prodTo}
@@ -11,6 +12,11 @@ use Rattle.numbers.specs.Sums.{sumTo, prodTo}
 unfoldable pub weighted : ℕ → (ℕ → ℕ) → (ℕ → ℕ) → ℕ
 weighted zero e f = 0
 weighted (suc n) e f = weighted n e f * e n + prodTo n e * f n
+
+-- a loop's turn adds one term
+pub sum-next : (n : ℕ) (f : ℕ → ℕ) → sumTo (n + 1) f ≡ sumTo n f + f n
+unfolding sumTo
+sum-next n f = rw add-one
 
 pub sum-zero : (n : ℕ) → sumTo n (λ i. 0) ≡ 0
 unfolding sumTo
