@@ -23,10 +23,13 @@ unfolding sumTo
 sum-zero zero = refl
 sum-zero (suc n) = omega (arith, sum-zero n)
 
-pub sum-one : (n : ℕ) → sumTo n (λ i. 1) ≡ n
+pub sum-same : (n k : ℕ) → sumTo n (λ i. k) ≡ k * n
 unfolding sumTo
-sum-one zero = refl
-sum-one (suc n) = omega (arith, sum-one n)
+sum-same zero k = omega arith
+sum-same (suc n) k = omega (arith, sum-same n k)
+
+pub sum-one : (n : ℕ) → sumTo n (λ i. 1) ≡ n
+sum-one n = omega (arith, sum-same n 1)
 
 pub sum-add : (n : ℕ) (f g : ℕ → ℕ) → sumTo n (λ i. f i + g i) ≡ sumTo n f + sumTo n g
 unfolding sumTo
