@@ -101,7 +101,11 @@ pub fn block_refusal(block: &[u8], number: u32, edition: u32, used: usize) -> u3
     if its_number != number {
         return NUMBER_WRONG;
     }
-    if is_zero(block, used, CHECK_AT) { 0 } else { RESERVED_NOT_ZERO }
+    if is_zero(block, used, CHECK_AT) {
+        0
+    } else {
+        RESERVED_NOT_ZERO
+    }
 }
 
 // Fills the target with the first fields of a block.

@@ -9,7 +9,7 @@ use native.Mathlib.Numerals.{add-one}
 use native.Mathlib.Decide.{decLt}
 use native.Mathlib.Omega.{arith}
 use lib.ListN.{length, getD, take, set, length-append, List·getD-append}
-use lib.Seq.{getD-at, take-all, take-suc-set}
+use lib.Seq.{getD-at, take-all, take-suc, take-suc-set}
 use Rattle.numbers.specs.Choice.{every, tab}
 
 -- one number fewer to look at
@@ -99,3 +99,12 @@ tab-store f l i v h e p = rw add-one (take-suc-set l i v h ∙ ap₂ (λ (t : Li
 
 pub tab-whole : (f : ℕ → ℕ) (l : List ℕ) (n : ℕ) → length l ≡ n → take n l ≡ tab n f → l ≡ tab n f
 tab-whole f l n h e = sym (take-all n l (omega arith)) ∙ e
+
+-- a list copied element by element: what is copied so far, and the whole
+pub copy-store : (from to : List ℕ) (i v : ℕ) → i < length from → i < length to → take i to ≡ take i from → v ≡ getD from i 0
+    → take (i + 1) (set to i v) ≡ take (i + 1) from
+copy-store from to i v hf ht e p =
+    rw (add-one i) (take-suc-set to i v ht ∙ ap₂ (λ (l : List ℕ) (a : ℕ). l ++ (a ∷ [])) e p ∙ sym (take-suc from i 0 hf))
+
+pub copy-whole : (from to : List ℕ) (n : ℕ) → length from ≡ n → length to ≡ n → take n to ≡ take n from → to ≡ from
+copy-whole from to n hf ht e = sym (take-all n to (omega arith)) ∙ e ∙ take-all n from (omega arith)

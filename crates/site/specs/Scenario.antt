@@ -1,16 +1,15 @@
 -- The scenario that a site file's fields say, and what it says for one age.
 -- Assumes nothing.
 use Prim.Native.Nat.{ℕ, zero, suc, _+_, _≤_, _<_}
-use mathlib.Core.List.{List}
+use mathlib.Core.List.{List, [], _∷_}
 use lib.ListN.{getD, replicate}
-use Rattle.numbers.specs.Choice.{tab}
 use Rattle.site.specs.declared.DustSource.{DustSource}
 use Rattle.site.specs.declared.DustSource.the-variants.{Given, MultipleSource}
 use Rattle.site.specs.declared.WaterSource.{WaterSource}
 use Rattle.site.specs.declared.WaterSource.the-variants.{Constant, ThreeSources}
 use Rattle.site.specs.declared.Scenario.{Scenario}
 use Rattle.site.specs.declared.Exposure.{Exposure}
-use Rattle.site.specs.Fields.{at, airAt, hoursOutAt, breathingAt, airAbsorptionAt, dietAt, waterAt, soilAt, dustAt, eatenAt, alternateAt, indoorAt, weightSoilAt, contributionAt, airToDustAt, dustModeAt, waterModeAt, constantAt, flushedAt, firstDrawAt, fountainAt, firstDrawShareAt, fountainShareAt, absorbedAt, passiveAt, saturationAt}
+use Rattle.site.specs.Fields.{at, airAt, hoursOutAt, breathingAt, airAbsorptionAt, dietAt, waterAt, soilAt, dustAt, eatenAt, alternateAt, indoorAt, weightSoilAt, contributionAt, airToDustAt, dustModeAt, waterModeAt, constantAt, flushedAt, firstDrawAt, fountainAt, firstDrawShareAt, fountainShareAt, absorbedAt, passiveAt, saturationAt, motherAt}
 
 -- dust mode 0 given, 1 multiple source
 abbrev pub dustSourceOf : ℕ → DustSource
@@ -34,36 +33,48 @@ scenarioOf fields =
 unfoldable pub blankScenario : Scenario
 blankScenario = record { fields = replicate 94 0; «dust_source» = Given; «water_source» = Constant }
 
+-- the percentages of the five eaten media, diet, water, dust, soil, alternate, from a place on
+abbrev pub percentagesFrom : List ℕ → ℕ → List ℕ
+percentagesFrom fields from = at fields from ∷ at fields (from + 1) ∷ at fields (from + 2) ∷ at fields (from + 3) ∷ at fields (from + 4) ∷ []
+
+-- what fields and sources say for an age from 0 to 6
+abbrev pub exposureFrom : List ℕ → DustSource → WaterSource → ℕ → Exposure
+exposureFrom fields dustSource waterSource age =
+    record {
+      air = at fields (airAt + age);
+      «hours_out» = at fields (hoursOutAt + age);
+      breathing = at fields (breathingAt + age);
+      «air_absorption» = at fields (airAbsorptionAt + age);
+      diet = at fields (dietAt + age);
+      water = at fields (waterAt + age);
+      soil = at fields (soilAt + age);
+      dust = at fields (dustAt + age);
+      eaten = at fields (eatenAt + age);
+      alternate = at fields (alternateAt + age);
+      indoor = at fields indoorAt;
+      «weight_soil» = at fields weightSoilAt;
+      contribution = at fields contributionAt;
+      «air_to_dust» = at fields airToDustAt;
+      «dust_source» = dustSource;
+      «water_source» = waterSource;
+      constant = at fields constantAt;
+      flushed = at fields flushedAt;
+      «first_draw» = at fields firstDrawAt;
+      fountain = at fields fountainAt;
+      «first_draw_share» = at fields firstDrawShareAt;
+      «fountain_share» = at fields fountainShareAt;
+      absorbed = percentagesFrom fields absorbedAt;
+      passive = percentagesFrom fields passiveAt;
+      saturation = at fields saturationAt;
+    }
+
 -- what a scenario says for an age from 0 to 6
 unfoldable pub exposureAt : Scenario → ℕ → Exposure
-exposureAt s age =
-    record {
-      air = at (s .fields) (airAt + age);
-      «hours_out» = at (s .fields) (hoursOutAt + age);
-      breathing = at (s .fields) (breathingAt + age);
-      «air_absorption» = at (s .fields) (airAbsorptionAt + age);
-      diet = at (s .fields) (dietAt + age);
-      water = at (s .fields) (waterAt + age);
-      soil = at (s .fields) (soilAt + age);
-      dust = at (s .fields) (dustAt + age);
-      eaten = at (s .fields) (eatenAt + age);
-      alternate = at (s .fields) (alternateAt + age);
-      indoor = at (s .fields) indoorAt;
-      «weight_soil» = at (s .fields) weightSoilAt;
-      contribution = at (s .fields) contributionAt;
-      «air_to_dust» = at (s .fields) airToDustAt;
-      «dust_source» = s .«dust_source»;
-      «water_source» = s .«water_source»;
-      constant = at (s .fields) constantAt;
-      flushed = at (s .fields) flushedAt;
-      «first_draw» = at (s .fields) firstDrawAt;
-      fountain = at (s .fields) fountainAt;
-      «first_draw_share» = at (s .fields) firstDrawShareAt;
-      «fountain_share» = at (s .fields) fountainShareAt;
-      absorbed = tab 5 (λ (medium : ℕ). at (s .fields) (absorbedAt + medium));
-      passive = tab 5 (λ (medium : ℕ). at (s .fields) (passiveAt + medium));
-      saturation = at (s .fields) saturationAt;
-    }
+exposureAt s age = exposureFrom (s .fields) (s .«dust_source») (s .«water_source») age
+
+-- the mother's blood lead
+abbrev pub motherOf : Scenario → ℕ
+motherOf s = at (s .fields) motherAt
 
 -- an exposure's limits, as an accepted site file keeps them
 pub record ExposureLimits (e : Exposure) : Type 0 where

@@ -1,4 +1,23 @@
 // The site file: one block of 94 fields, read into a scenario or refused.
+use block::BLOCK_BYTES;
+use block::WRONG_LENGTH;
+ghost use mathlib.Core.Path.{_≡_};
+ghost use Rattle.site.specs.Scenario.{dustSourceOf, waterSourceOf, scenarioOf};
+ghost use Rattle.site.specs.Site.{refusedWith, readSite};
+
+pub mod by_age;
+mod limits;
+pub mod places;
+
+// A field, or the sum of the two water shares, outside its limits.
+const FIELD_LIMIT: u32 = 7;
+
+// A site file is block 0 of edition 1, with bytes used up to the end of its last field.
+const SITE_NUMBER: u32 = 0;
+
+const SITE_EDITION: u32 = 1;
+
+const SITE_USED: usize = 380;
 
 // Where the dust figure comes from: given, or from soil and air by the multiple source formula.
 pub enum DustSource {
@@ -52,4 +71,73 @@ pub struct Exposure {
     pub absorbed: [u64; 5], // % of diet, water, dust, soil, alternate
     pub passive: [u64; 5], // %, in that order
     pub saturation: u64, // pg/day at 24 months
+}
+
+fn dust_source_of(mode: u32) -> DustSource
+    ensures { λ r. ⌜ r ≡ dustSourceOf mode ⌝ }
+{
+    if mode == 0 {
+        DustSource::Given
+    } else {
+        DustSource::MultipleSource
+    }
+}
+
+fn water_source_of(mode: u32) -> WaterSource
+    ensures { λ r. ⌜ r ≡ waterSourceOf mode ⌝ }
+{
+    if mode == 0 {
+        WaterSource::Constant
+    } else {
+        WaterSource::ThreeSources
+    }
+}
+
+// The scenario that fields say.
+pub fn scenario_of(fields: [u32; 94]) -> Scenario
+    ensures { λ r. ⌜ r ≡ scenarioOf fields ⌝ }
+{
+    let dust_source = dust_source_of(fields[places::DUST_MODE]);
+    let water_source = water_source_of(fields[places::WATER_MODE]);
+    Scenario {
+        fields,
+        dust_source,
+        water_source,
+    }
+}
+
+// A refusal, with the blank scenario.
+fn refused_with(refusal: u32) -> SiteRead
+    ensures { λ r. ⌜ r ≡ refusedWith refusal ⌝ }
+{
+    let scenario = Scenario {
+        fields: [0; 94],
+        dust_source: DustSource::Given,
+        water_source: WaterSource::Constant,
+    };
+    SiteRead { refusal, scenario }
+}
+
+// Reads a site file.
+pub fn read_site(site: &[u8]) -> SiteRead
+    ensures { λ r. ⌜ r ≡ readSite (now (site .entry)) ⌝ }
+{
+    if site.len() != BLOCK_BYTES {
+        return refused_with(WRONG_LENGTH);
+    }
+    let refusal = block::read::block_refusal(site, SITE_NUMBER, SITE_EDITION, SITE_USED);
+    if refusal != 0 {
+        return refused_with(refusal);
+    }
+    let mut fields = [0u32; 94];
+    block::read::read_fields(site, &mut fields);
+    if limits::fields_fit(fields) {
+        let scenario = scenario_of(fields);
+        SiteRead {
+            refusal: 0,
+            scenario,
+        }
+    } else {
+        refused_with(FIELD_LIMIT)
+    }
 }
