@@ -4,7 +4,9 @@ use mathlib.Core.Path.{_≡_, refl}
 use mathlib.Core.Bool.{Bool, true, false}
 use Prim.Native.Nat.{ℕ, zero, suc}
 use native.Mathlib.Omega.{arith}
-use Rattle.numbers.specs.Choice.{unless, orElse}
+use mathlib.Core.List.{List, [], _∷_}
+use lib.ListN.{getD}
+use Rattle.numbers.specs.Choice.{unless, orElse, firstOf}
 
 -- the first is answered where it is one
 pub orElse-first : (r s : ℕ) → (r ≡ 0 → ⊥) → orElse r s ≡ r
@@ -30,3 +32,9 @@ orElse-not n (suc r) s hr hs e = hr e
 pub unless-none : (t : Bool) (n : ℕ) → unless t (suc n) ≡ 0 → t ≡ true
 unless-none true n e = refl
 unless-none false n e = absurd (omega arith)
+
+-- where no refusal of a list is answered, each of them is none
+pub firstOf-none : (rs : List ℕ) → firstOf rs ≡ 0 → (k : ℕ) → getD rs k 0 ≡ 0
+firstOf-none [] e k = refl
+firstOf-none (r ∷ rs) e zero = orElse-none r (firstOf rs) e .0
+firstOf-none (r ∷ rs) e (suc k) = firstOf-none rs (orElse-none r (firstOf rs) e .1) k

@@ -1,0 +1,131 @@
+-- What an accepted site file is known to hold.
+-- Assumes nothing.
+use mathlib.Core.Path.{_≡_, refl, sym, ap, _∙_}
+use mathlib.Core.Bool.{Bool, true, _&&_}
+use mathlib.Core.List.{List, [], _∷_}
+use Prim.Native.Nat.{ℕ, zero, suc, _+_, _≤_, _<_}
+use native.Mathlib.Nat.{le-trans}
+use native.Mathlib.Omega.{arith}
+use lib.ListN.{length, getD}
+use lib.Dec.{eqb, leb}
+use borrow.Author.Tests.{leb-true}
+use Rattle.numbers.specs.Choice.{unless, every}
+use Rattle.numbers.proofs.Every.{and-left, and-right, every-at}
+use Rattle.numbers.proofs.Refusals.{firstOf-none, unless-none}
+use Rattle.block.specs.Block.{blockRefusal, fieldAt, checkAt, checkOf}
+use Rattle.block.proofs.Sealed.{accepted-check}
+use Rattle.site.specs.declared.Scenario.{Scenario}
+use Rattle.site.specs.Fields.{at, limits, airAt, hoursOutAt, breathingAt, airAbsorptionAt, dietAt, waterAt, soilAt, dustAt, eatenAt, alternateAt, absorbedAt, passiveAt, firstDrawShareAt, fountainShareAt, saturationAt, withinLimits, saturated, sharesFit, fieldsFit}
+use Rattle.site.specs.Scenario.{percentagesFrom, scenarioOf, exposureAt, motherOf, ExposureLimits}
+use Rattle.site.specs.Site.{siteFields, siteRefusal, refusedWith, accepted, answerOf, readSite}
+use Rattle.site.specs.Laws.{ExposureWithin, MotherWithin, RightCheck}
+use Rattle.site.proofs.Tests.{fieldWithin, limit-in}
+
+module _ (fields : List ℕ) (fit : fieldsFit fields ≡ true) where
+  -- each field is at most its limit
+  pub field-le : (place : ℕ) → place < 94 → at fields place ≤ at limits place
+  unfolding fieldsFit withinLimits
+  field-le place h =
+      leb-true (at fields place) (at limits place)
+      (every-at (fieldWithin fields) 0 94 (and-left (withinLimits fields) (saturated fields && sharesFit fields) fit) place (omega arith) (omega arith))
+
+  rules : saturated fields && sharesFit fields ≡ true
+  unfolding fieldsFit
+  rules = and-right (withinLimits fields) (saturated fields && sharesFit fields) fit
+
+  saturation-ge : 1_000_000 ≤ at fields saturationAt
+  saturation-ge = leb-true 1_000_000 (at fields saturationAt) (and-left (saturated fields) (sharesFit fields) rules)
+
+  shares-le : at fields firstDrawShareAt + at fields fountainShareAt ≤ 100
+  shares-le = leb-true (at fields firstDrawShareAt + at fields fountainShareAt) 100 (and-right (saturated fields) (sharesFit fields) rules)
+
+  -- a field that each age has, by the limit of its group
+  group-le : (group v : ℕ) → every (λ (place : ℕ). leb (at limits place) v) group 7 ≡ true → group + 7 ≤ 94 → (age : ℕ) → age ≤ 6 → at fields (group + age) ≤ v
+  group-le group v e room age h =
+      le-trans (field-le (group + age) (omega arith))
+      (leb-true (at limits (group + age)) v (every-at (λ (place : ℕ). leb (at limits place) v) group 7 e (group + age) (omega arith) (omega arith)))
+
+  -- the five percentages from a place
+  percentage-le : (from : ℕ) → at limits from ≤ 100 → at limits (from + 1) ≤ 100 → at limits (from + 2) ≤ 100 → at limits (from + 3) ≤ 100
+      → at limits (from + 4) ≤ 100 → from + 4 < 94 → (medium : ℕ) → medium < 5 → getD (percentagesFrom fields from) medium 0 ≤ 100
+  percentage-le from a b c d e h zero l = le-trans (field-le from (omega arith)) a
+  percentage-le from a b c d e h (suc zero) l = le-trans (field-le (from + 1) (omega arith)) b
+  percentage-le from a b c d e h (suc (suc zero)) l = le-trans (field-le (from + 2) (omega arith)) c
+  percentage-le from a b c d e h (suc (suc (suc zero))) l = le-trans (field-le (from + 3) (omega arith)) d
+  percentage-le from a b c d e h (suc (suc (suc (suc zero)))) l = le-trans (field-le (from + 4) (omega arith)) e
+  percentage-le from a b c d e h (suc (suc (suc (suc (suc m))))) l = absurd (omega arith)
+
+-- what a scenario whose fields fit says for an age
+pub exposure-within : (s : Scenario) → fieldsFit (s .fields) ≡ true → (age : ℕ) → age ≤ 6 → ExposureLimits (exposureAt s age)
+unfolding exposureAt limits every
+exposure-within s fit age h =
+    let f = s .fields in
+    record {
+      air = group-le f fit airAt 100_000_000 refl (omega arith) age h;
+      hours = group-le f fit hoursOutAt 24 refl (omega arith) age h;
+      breathing = group-le f fit breathingAt 100_000 refl (omega arith) age h;
+      absorption = group-le f fit airAbsorptionAt 100 refl (omega arith) age h;
+      diet = group-le f fit dietAt 1_000_000_000 refl (omega arith) age h;
+      water = group-le f fit waterAt 10_000 refl (omega arith) age h;
+      soil = group-le f fit soilAt 50_000_000 refl (omega arith) age h;
+      dust = group-le f fit dustAt 50_000_000 refl (omega arith) age h;
+      eaten = group-le f fit eatenAt 1_000 refl (omega arith) age h;
+      alternate = group-le f fit alternateAt 1_000_000_000 refl (omega arith) age h;
+      indoor = field-le f fit 70 (omega arith);
+      weight = field-le f fit 71 (omega arith);
+      contribution = field-le f fit 72 (omega arith);
+      factor = field-le f fit 73 (omega arith);
+      constant = field-le f fit 76 (omega arith);
+      flushed = field-le f fit 77 (omega arith);
+      first = field-le f fit 78 (omega arith);
+      fountain = field-le f fit 79 (omega arith);
+      shares = shares-le f fit;
+      absorbed = percentage-le f fit absorbedAt (omega arith) (omega arith) (omega arith) (omega arith) (omega arith) (omega arith);
+      passive = percentage-le f fit passiveAt (omega arith) (omega arith) (omega arith) (omega arith) (omega arith) (omega arith);
+      saturation-least = saturation-ge f fit;
+      saturation-most = field-le f fit 92 (omega arith);
+    }
+
+-- the refusal that is answered
+pub read-refusal : (site : List ℕ) → readSite site .refusal ≡ siteRefusal site
+unfolding readSite accepted refusedWith
+read-refusal site = by (siteRefusal site)
+  where
+    by : (r : ℕ) → answerOf r (siteFields site) .refusal ≡ r
+    by zero = refl
+    by (suc r) = refl
+
+module _ (site : List ℕ) (passed : siteRefusal site ≡ 0) where
+  refusals : List ℕ
+  refusals = unless (eqb (length site) 512) 1 ∷ blockRefusal site 0 1 380 ∷ unless (fieldsFit (siteFields site)) 7 ∷ []
+
+  none : (k : ℕ) → getD refusals k 0 ≡ 0
+  unfolding siteRefusal refusals
+  none k = firstOf-none refusals passed k
+
+  block-passed : blockRefusal site 0 1 380 ≡ 0
+  unfolding refusals
+  block-passed = none 1
+
+  fields-passed : fieldsFit (siteFields site) ≡ true
+  unfolding refusals
+  fields-passed = unless-none _ 6 (none 2)
+
+  -- an accepted file's scenario is that of its fields
+  pub accepted-scenario : readSite site .scenario ≡ scenarioOf (siteFields site)
+  unfolding readSite accepted
+  accepted-scenario = rw passed
+
+  accepted-fit : fieldsFit (readSite site .scenario .fields) ≡ true
+  unfolding scenarioOf
+  accepted-fit = ap (λ (s : Scenario). fieldsFit (s .fields)) accepted-scenario ∙ fields-passed
+
+pub exposure-accepted : ExposureWithin
+exposure-accepted site passed age h = exposure-within (readSite site .scenario) (accepted-fit site passed) age h
+
+pub mother-accepted : MotherWithin
+unfolding limits
+mother-accepted site passed = field-le (readSite site .scenario .fields) (accepted-fit site passed) 93 (omega arith)
+
+pub right-check : RightCheck
+right-check site passed = accepted-check site 0 1 380 (block-passed site passed)
