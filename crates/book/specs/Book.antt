@@ -1,12 +1,13 @@
 -- The book reader: 17 blocks numbered 0 to 16, five month rows each, months 0 to 84; refusals 1, 3 to 6 and 8.
 -- Assumes nothing.
 use Prim.Native.Nat.{ℕ, zero, suc, _+_, _*_, _/_, _%_}
-use mathlib.Core.List.{List, [], _∷_}
-use lib.ListN.{length, replicate}
+use mathlib.Core.Path.{_≡_}
+use mathlib.Core.List.{List, [], _∷_, _++_}
+use lib.ListN.{length, take, drop, replicate}
 use lib.Dec.{eqb}
-use Rattle.numbers.specs.Choice.{unless, orElse, firstOf, every, tab}
+use Rattle.numbers.specs.Choice.{unless, orElse, firstOf, tab}
 use Rattle.block.specs.Block.{fieldAt, fieldsAt, blockRefusal, fieldsOf, blockAt}
-use Rattle.book.specs.Row.{rowOf, rowFits}
+use Rattle.book.specs.Row.{rowsFit}
 
 -- a block of the book has five rows of 23 fields, in bytes 4 to 463
 abbrev pub blockNumbers : List ℕ → List ℕ
@@ -15,7 +16,7 @@ blockNumbers block = fieldsOf 115 block
 -- why block n is refused
 unfoldable pub bookBlockRefusal : List ℕ → ℕ → ℕ
 bookBlockRefusal block n =
-    firstOf (blockRefusal block n 1 464 ∷ unless (every (λ (r : ℕ). rowFits (rowOf (blockNumbers block) r)) 0 5) 8 ∷ [])
+    firstOf (blockRefusal block n 1 464 ∷ unless (rowsFit (blockNumbers block) 0) 8 ∷ [])
 
 -- each block in turn, k blocks from block n
 unfoldable pub blocksRefusal : List ℕ → ℕ → ℕ → ℕ
@@ -41,3 +42,18 @@ tableBeside (suc r) book = blankTable
 -- the table that reading a book leaves
 unfoldable pub bookTable : List ℕ → List ℕ
 bookTable book = tableBeside (bookRefusal book) book
+
+-- a table with the 115 numbers of block n in their place
+unfoldable pub placed : ℕ → List ℕ → List ℕ → List ℕ
+placed n numbers table = take (115 * n) table ++ (numbers ++ drop 115 (drop (115 * n) table))
+
+-- for the code's contracts: what decoding block n into a table leaves, and what decoding all blocks leaves
+pub record BlockDecoded (book : List ℕ) (n : ℕ) (before after : List ℕ) (r : ℕ) : Type 0 where
+  pub refusal : r ≡ bookBlockRefusal (blockAt book n) n
+  pub long : length after ≡ 1955
+  pub table : r ≡ 0 → after ≡ placed n (blockNumbers (blockAt book n)) before
+
+pub record BookDecoded (book after : List ℕ) (r : ℕ) : Type 0 where
+  pub refusal : r ≡ blocksRefusal book 0 17
+  pub long : length after ≡ 1955
+  pub table : r ≡ 0 → after ≡ numbersOf book

@@ -2,7 +2,7 @@
 -- Assumes nothing.
 use Prim.Native.Nat.{ℕ, zero, suc, _+_, _*_, _/_, _≤_, _<_}
 use mathlib.Core.Bool.{Bool, _&&_}
-use mathlib.Core.List.{List}
+use mathlib.Core.List.{List, [], _∷_}
 use lib.ListN.{getD}
 use lib.Dec.{leb, ltb}
 use Rattle.numbers.specs.Choice.{every, tab}
@@ -28,30 +28,36 @@ exit r (suc (suc zero)) = 0
 exit r (suc (suc (suc zero))) = r .skin
 exit r (suc (suc (suc (suc i)))) = 0
 
--- field k of row m in a table of rows of 23 numbers
-abbrev pub fieldOf : List ℕ → ℕ → ℕ → ℕ
-fieldOf table m k = getD table (23 * m + k) 0
+-- the 23 numbers of row m in a table of rows
+unfoldable pub rowNumbers : List ℕ → ℕ → List ℕ
+rowNumbers table m = tab 23 (λ (k : ℕ). getD table (23 * m + k) 0)
 
--- row m of a table, its fields in the order of document 01
-unfoldable pub rowOf : List ℕ → ℕ → Row
-rowOf table m =
+-- the row that 23 numbers say, in the order of document 01
+abbrev pub rowFrom : List ℕ → Row
+rowFrom numbers =
     record {
-      «blood_volume» = fieldOf table m 0;
-      «plasma_volume» = fieldOf table m 1;
-      «body_weight» = fieldOf table m 2;
-      kidney = fieldOf table m 3;
-      liver = fieldOf table m 4;
-      other = fieldOf table m 5;
-      trabecular = fieldOf table m 6;
-      cortical = fieldOf table m 7;
+      «blood_volume» = getD numbers 0 0;
+      «plasma_volume» = getD numbers 1 0;
+      «body_weight» = getD numbers 2 0;
+      kidney = getD numbers 3 0;
+      liver = getD numbers 4 0;
+      other = getD numbers 5 0;
+      trabecular = getD numbers 6 0;
+      cortical = getD numbers 7 0;
       rates = record {
-        out = tab 6 (λ (i : ℕ). fieldOf table m (8 + i));
-        urine = fieldOf table m 14;
-        back = tab 6 (λ (i : ℕ). fieldOf table m (15 + i));
-        faeces = fieldOf table m 21;
-        skin = fieldOf table m 22;
+        out =
+            getD numbers 8 0 ∷ getD numbers 9 0 ∷ getD numbers 10 0 ∷ getD numbers 11 0 ∷ getD numbers 12 0 ∷ getD numbers 13 0 ∷ [];
+        urine = getD numbers 14 0;
+        back =
+            getD numbers 15 0 ∷ getD numbers 16 0 ∷ getD numbers 17 0 ∷ getD numbers 18 0 ∷ getD numbers 19 0 ∷ getD numbers 20 0 ∷ [];
+        faeces = getD numbers 21 0;
+        skin = getD numbers 22 0;
       };
     }
+
+-- row m of a table
+unfoldable pub rowOf : List ℕ → ℕ → Row
+rowOf table m = rowFrom (rowNumbers table m)
 
 -- the row limits: VB, VP and the weights; a1 at least 1 and the sum of the a; each b + c; each c
 unfoldable pub volumesFit : Row → Bool
@@ -65,15 +71,29 @@ weightsFit w =
     && (leb (w .kidney) 50_000
     && (leb (w .liver) 50_000 && (leb (w .other) 50_000 && (leb (w .trabecular) 50_000 && leb (w .cortical) 50_000)))))
 
+unfoldable pub returnsFit : Rates → Bool
+returnsFit r = every (λ (i : ℕ). leb (back r i + exit r i) unit) 0 6
+
 unfoldable pub ratesFit : Rates → Bool
 ratesFit r =
     leb 1 (out r 0)
-    && (leb (sumTo 6 (out r) + r .urine) (64 * unit)
-    && (every (λ (i : ℕ). leb (back r i + exit r i) unit) 0 6 && (leb (r .faeces) (unit / 2) && leb (r .skin) (unit / 2))))
+    && (leb (sumTo 6 (out r) + r .urine) (64 * unit) && (returnsFit r && (leb (r .faeces) (unit / 2) && leb (r .skin) (unit / 2))))
 
 -- a row is within its limits: else 8
 unfoldable pub rowFits : Row → Bool
 rowFits w = volumesFit w && (weightsFit w && ratesFit (w .rates))
+
+-- the five rows of a block are within their limits, from row m on
+unfoldable pub rowsFit : List ℕ → ℕ → Bool
+rowsFit table m = every (λ (row : ℕ). rowFits (rowOf table row)) m 5
+
+-- rates that are 32-bit fields
+pub record Rates32 (r : Rates) : Type 0 where
+  pub out : (i : ℕ) → out r i < 4_294_967_296
+  pub urine : r .urine < 4_294_967_296
+  pub back : (i : ℕ) → back r i < 4_294_967_296
+  pub faeces : r .faeces < 4_294_967_296
+  pub skin : r .skin < 4_294_967_296
 
 -- the limits of the rates that a step asks; a1 may be 0
 pub record RateLimits (r : Rates) : Type 0 where

@@ -2,13 +2,13 @@
 -- Assumes nothing.
 use mathlib.Core.Path.{_≡_, refl, sym, ap, ap₂, _∙_}
 use mathlib.Core.Bool.{Bool, true, false, _&&_}
-use mathlib.Core.List.{List, [], _∷_, _++_}
+use mathlib.Core.List.{List, [], _∷_, _++_, append-nil, append-assoc}
 use Prim.Native.Nat.{ℕ, zero, suc, _+_, _-_, _≤_, _<_}
-use native.Mathlib.Nat.{not-suc-le-zero}
+use native.Mathlib.Nat.{not-suc-le-zero, add-zero, add-suc}
 use native.Mathlib.Numerals.{add-one}
 use native.Mathlib.Decide.{decLt}
 use native.Mathlib.Omega.{arith}
-use lib.ListN.{length, getD, take, set, length-append, List·getD-append}
+use lib.ListN.{length, getD, take, set, replicate, length-append, List·getD-append, replicate-append-replicate}
 use lib.Seq.{getD-at, take-all, take-suc, take-suc-set}
 use Rattle.numbers.specs.Choice.{every, tab}
 
@@ -66,6 +66,18 @@ every-same f g i zero h = refl
 every-same f g i (suc n) h =
     ap₂ _&&_ (h i (omega arith) (omega arith)) (every-same f g (suc i) n (λ k a b. h k (omega arith) (omega arith)))
 
+-- the same test at numbers that are shifted
+pub every-shift : (f g : ℕ → Bool) (a b n : ℕ) → ((k : ℕ) → k < n → f (a + k) ≡ g (b + k)) → every f a n ≡ every g b n
+unfolding every
+every-shift f g a b zero h = refl
+every-shift f g a b (suc n) h =
+    ap₂ _&&_ (ap f (sym (add-zero a)) ∙ h 0 (omega arith) ∙ ap g (add-zero b))
+    (every-shift f g (suc a) (suc b) n
+    (λ k l.
+    let left : suc a + k ≡ a + suc k = omega arith in
+    let right : suc b + k ≡ b + suc k = omega arith in
+    ap f left ∙ h (suc k) (omega arith) ∙ ap g (sym right)))
+
 -- the list of f's values
 pub length-tab : (n : ℕ) (f : ℕ → ℕ) → length (tab n f) ≡ n
 unfolding tab
@@ -108,3 +120,17 @@ copy-store from to i v hf ht e p =
 
 pub copy-whole : (from to : List ℕ) (n : ℕ) → length from ≡ n → length to ≡ n → take n to ≡ take n from → to ≡ from
 copy-whole from to n hf ht e = sym (take-all n to (omega arith)) ∙ e ∙ take-all n from (omega arith)
+
+pub tab-zeros : (n : ℕ) → tab n (λ k. 0) ≡ replicate n 0
+unfolding tab
+tab-zeros zero = refl
+tab-zeros (suc n) = ap (λ (l : List ℕ). l ++ (0 ∷ [])) (tab-zeros n) ∙ replicate-append-replicate {A = ℕ} n 1 0 ∙ ap (λ (k : ℕ). replicate k 0) (add-one n)
+
+-- the list of f at each number below a + b, in two parts
+pub tab-append : (a b : ℕ) (f : ℕ → ℕ) → tab (a + b) f ≡ tab a f ++ tab b (λ (j : ℕ). f (a + j))
+unfolding tab
+tab-append a zero f = ap (λ (k : ℕ). tab k f) (add-zero a) ∙ sym (append-nil (tab a f))
+tab-append a (suc b) f =
+    ap (λ (k : ℕ). tab k f) (add-suc a b)
+    ∙ ap (λ (l : List ℕ). l ++ (f (a + b) ∷ [])) (tab-append a b f)
+    ∙ append-assoc (tab a f) (tab b (λ (j : ℕ). f (a + j))) (f (a + b) ∷ [])

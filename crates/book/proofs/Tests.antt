@@ -1,0 +1,76 @@
+-- Laws of the row limits' tests.
+-- Assumes nothing.
+use mathlib.Core.Path.{_≡_, refl}
+use mathlib.Core.Bool.{Bool}
+use mathlib.Core.List.{List, [], _∷_}
+use Prim.Native.Nat.{ℕ, zero, suc, _+_, _*_, _<_}
+use native.Mathlib.Decide.{decLt}
+use native.Mathlib.Omega.{arith}
+use lib.Dec.{leb}
+use lib.ListN.{getD, List·getD-eq-default}
+use Rattle.numbers.specs.Choice.{tab}
+use Rattle.numbers.proofs.Every.{length-tab, getD-tab}
+use Rattle.book.specs.declared.Rates.{Rates}
+use Rattle.book.specs.Row.{unit, out, back, exit, rowNumbers, rowOf, Rates32}
+
+-- what compartment i gives back and loses is at most D
+abbrev pub returnFits : Rates → ℕ → Bool
+returnFits r i = leb (back r i + exit r i) unit
+
+-- each rate out of plasma is a 32-bit field
+pub record OutsSmall (r : Rates) : Type 0 where
+  pub a1 : out r 0 < 4_294_967_296
+  pub a2 : out r 1 < 4_294_967_296
+  pub a3 : out r 2 < 4_294_967_296
+  pub a4 : out r 3 < 4_294_967_296
+  pub a5 : out r 4 < 4_294_967_296
+  pub a6 : out r 5 < 4_294_967_296
+  pub au : r .urine < 4_294_967_296
+
+pub outs-small : {r : Rates} → Rates32 r → OutsSmall r
+outs-small h =
+    record { a1 = h .out 0; a2 = h .out 1; a3 = h .out 2; a4 = h .out 3; a5 = h .out 4; a6 = h .out 5; au = h .urine }
+
+-- only liver and other leave the body
+pub exit-none : (r : Rates) (i : ℕ) → (i ≡ 1 → ⊥) → (i ≡ 3 → ⊥) → 0 ≡ exit r i
+exit-none r zero h k = refl
+exit-none r (suc zero) h k = absurd (h refl)
+exit-none r (suc (suc zero)) h k = refl
+exit-none r (suc (suc (suc zero))) h k = absurd (k refl)
+exit-none r (suc (suc (suc (suc i)))) h k = refl
+
+-- a table of 32-bit numbers has rows whose rates are 32-bit fields
+module _ (table : List ℕ) (small : (k : ℕ) → getD table k 0 < 4_294_967_296) (m : ℕ) where
+  abbrev number : ℕ → ℕ
+  number k = getD (rowNumbers table m) k 0
+
+  number-small : (k : ℕ) → number k < 4_294_967_296
+  unfolding rowNumbers
+  number-small k =
+      elim (decLt k 23) [
+        | yes h ↦ rw (getD-tab 23 (λ (k : ℕ). getD table (23 * m + k) 0) k h) (small (23 * m + k))
+        | no h ↦
+            let past : number k ≡ 0 = List·getD-eq-default (rowNumbers table m) 0 (omega (arith, length-tab 23 (λ (k : ℕ). getD table (23 * m + k) 0))) in
+            omega arith
+      ]
+
+  -- any six of the numbers
+  six-small : (a b c d e f i : ℕ) → getD (number a ∷ number b ∷ number c ∷ number d ∷ number e ∷ number f ∷ []) i 0 < 4_294_967_296
+  six-small a b c d e f zero = number-small a
+  six-small a b c d e f (suc zero) = number-small b
+  six-small a b c d e f (suc (suc zero)) = number-small c
+  six-small a b c d e f (suc (suc (suc zero))) = number-small d
+  six-small a b c d e f (suc (suc (suc (suc zero)))) = number-small e
+  six-small a b c d e f (suc (suc (suc (suc (suc zero))))) = number-small f
+  six-small a b c d e f (suc (suc (suc (suc (suc (suc i)))))) = omega arith
+
+  pub row-rates32 : Rates32 (rowOf table m .rates)
+  unfolding rowOf
+  row-rates32 =
+      record {
+        out = six-small 8 9 10 11 12 13;
+        urine = number-small 14;
+        back = six-small 15 16 17 18 19 20;
+        faeces = number-small 21;
+        skin = number-small 22;
+      }

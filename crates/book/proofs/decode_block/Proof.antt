@@ -1,0 +1,112 @@
+-- `book::decode_block` meets its contract: refused by its header, or its numbers placed and its rows tested.
+-- Assumes nothing.
+use mathlib.Core.Path.{sym, _∙_}
+use denote.Ref.{now}
+use Rattle.book.proofs.Decode.{refused-by-header, checked-rows}
+use borrow.Author.Needs.{needs}
+use Rattle.book.proofs.decode_block.Statement.{statement}
+use Rattle.book.proofs.decode_block.Tie as tie
+
+mul-start : tie.Need-mul-start
+mul-start c = search needs
+
+add-end : tie.Need-add-end
+add-end c = search needs
+
+sub-block : tie.Need-sub-block
+sub-block c = search needs
+
+part-block-start : tie.Need-part-block-start
+part-block-start c = search needs
+
+part-block-end : tie.Need-part-block-end
+part-block-end c = search needs
+
+cast-block-refusal : tie.Need-cast-block-refusal
+cast-block-refusal c = search needs
+
+block-refusal-requires : tie.Need-block-refusal-requires
+block-refusal-requires c κs = search needs
+
+returns : tie.Need-returns
+returns c =
+    let start = c .before .before .before .before .before in
+    refused-by-header (now (start .args .book)) (start .args .n) (now (start .args .table)) (start .pre .1 .0)
+    (c .before .block-refusal .result) (c .before .block-refusal .ensures) (c .if1 .taken)
+
+mul-first : tie.Need-mul-first
+mul-first c = search needs
+
+add-last : tie.Need-add-last
+add-last c = search needs
+
+mul-read-fields : tie.Need-mul-read-fields
+mul-read-fields c = search needs
+
+sub-read-fields : tie.Need-sub-read-fields
+sub-read-fields c = search needs
+
+part-read-fields-start : tie.Need-part-read-fields-start
+part-read-fields-start c = search needs
+
+part-read-fields-end : tie.Need-part-read-fields-end
+part-read-fields-end c = search needs
+
+read-fields-requires : tie.Need-read-fields-requires
+read-fields-requires c κs = search needs
+
+mul-rows-fit : tie.Need-mul-rows-fit
+mul-rows-fit c = search needs
+
+rows-fit-requires : tie.Need-rows-fit-requires
+rows-fit-requires c κs = search needs
+
+same-length : tie.Need-same-length
+same-length c = search needs
+
+returns-2 : tie.Need-returns-2
+returns-2 c =
+    let read = c .before .before .before .before .before in
+    let header = read .before .before .before in
+    let start = header .before .before .before .before in
+    checked-rows (now (start .args .book)) (start .args .n) (now (start .args .table)) (start .pre .1 .0) (start .pre .1 .1)
+    (sym (header .block-refusal .ensures) ∙ read .before .before .if1 .left) (read .read-fields .last .1 .0) (read .read-fields .ensures)
+    (sym (c .before .rows-fit .ensures) ∙ c .if2 .taken)
+
+same-length-2 : tie.Need-same-length-2
+same-length-2 c = search needs
+
+returns-3 : tie.Need-returns-3
+returns-3 c =
+    let read = c .before .before .before .before .before in
+    let header = read .before .before .before in
+    let start = header .before .before .before .before in
+    checked-rows (now (start .args .book)) (start .args .n) (now (start .args .table)) (start .pre .1 .0) (start .pre .1 .1)
+    (sym (header .block-refusal .ensures) ∙ read .before .before .if1 .left) (read .read-fields .last .1 .0) (read .read-fields .ensures)
+    (sym (c .before .rows-fit .ensures) ∙ c .if2 .left)
+
+pub decode-block-spec : {M : Type 1} → statement M
+decode-block-spec =
+    tie.close
+    (tie.spec
+    mul-start
+    add-end
+    sub-block
+    part-block-start
+    part-block-end
+    cast-block-refusal
+    block-refusal-requires
+    returns
+    mul-first
+    add-last
+    mul-read-fields
+    sub-read-fields
+    part-read-fields-start
+    part-read-fields-end
+    read-fields-requires
+    mul-rows-fit
+    rows-fit-requires
+    same-length
+    returns-2
+    same-length-2
+    returns-3)

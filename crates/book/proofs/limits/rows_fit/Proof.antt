@@ -1,0 +1,88 @@
+-- `book::limits::rows_fit` meets its contract: what is left to look at answers as the five rows do.
+-- Assumes nothing.
+use mathlib.Core.Path.{_≡_, refl, sym, ap, _∙_}
+use mathlib.Core.Bool.{Bool}
+use mathlib.Core.List.{List}
+use Prim.Native.Nat.{ℕ, _+_, _-_, _≤_, _<_}
+use native.Mathlib.Omega.{arith}
+use borrow.Author.Needs.{needs}
+use denote.Ref.{now}
+use Rattle.numbers.specs.Choice.{every}
+use Rattle.numbers.proofs.Every.{every-next, every-stop, every-done}
+use Rattle.book.specs.Row.{rowOf, rowFits, rowsFit, Rates32}
+use Rattle.book.proofs.Tests.{row-rates32}
+use Rattle.book.proofs.limits.rows_fit.Statement.{statement}
+use Rattle.book.proofs.limits.rows_fit.Tie as tie
+
+-- the row of a month is within its limits
+abbrev fits : List ℕ → ℕ → Bool
+fits table month = rowFits (rowOf table month)
+
+abbrev Inv-loop : tie.InvT-loop
+Inv-loop table first end month₀ month = (first ≤ month) × (every (fits table) month (end - month) ≡ rowsFit table first)
+
+abbrev μ-loop : tie.MeasureT-loop
+μ-loop table first end month₀ month = end - month
+
+add-end : tie.Need-add-end Inv-loop μ-loop
+add-end c = search needs
+
+loop-holds : tie.Need-loop-holds Inv-loop μ-loop
+unfolding rowsFit
+loop-holds c =
+    let five : c .before .args .first + 5 - c .before .args .first ≡ 5 = omega arith in
+    (omega arith, rw five)
+
+row-at-requires : tie.Need-row-at-requires Inv-loop μ-loop
+row-at-requires c κs = search needs
+
+row-fits-requires : tie.Need-row-fits-requires Inv-loop μ-loop
+row-fits-requires c κs =
+    let l = c .before .before in
+    rw (c .row-at .ensures) (row-rates32 (now (l .before .before .args .table)) (λ k. omega (arith, l .before .shared-slice-known .given k)) (l .loop .month))
+
+add-month : tie.Need-add-month Inv-loop μ-loop
+add-month c = search needs
+
+loop-less : tie.Need-loop-less Inv-loop μ-loop
+loop-less c = search needs
+
+loop-again : tie.Need-loop-again Inv-loop μ-loop
+loop-again c =
+    let l = c .before .before .before .before in
+    let a = l .before .before .args in (
+      omega arith,
+      sym (every-next (fits (now (a .table))) (l .loop .month) (a .first + 5) (c .before .before .before .loop-test .taken)
+          (ap rowFits (sym (c .before .before .row-at .ensures)) ∙ sym (c .before .row-fits .ensures) ∙ c .if1 .taken))
+          ∙ l .loop .inv .1,
+    )
+
+returns : tie.Need-returns Inv-loop μ-loop
+returns c =
+    let l = c .before .before .before .before in
+    let a = l .before .before .args in
+    sym (every-stop (fits (now (a .table))) (l .loop .month) (a .first + 5) (c .before .before .before .loop-test .taken)
+    (ap rowFits (sym (c .before .before .row-at .ensures)) ∙ sym (c .before .row-fits .ensures) ∙ c .if1 .left))
+    ∙ l .loop .inv .1
+
+returns-2 : tie.Need-returns-2 Inv-loop μ-loop
+returns-2 c =
+    let l = c .before in
+    let a = l .before .before .args in
+    sym (every-done (fits (now (a .table))) (l .loop .month) (a .first + 5) (c .loop-test .left)) ∙ l .loop .inv .1
+
+pub rows-fit-spec : {M : Type 1} → statement M
+rows-fit-spec =
+    tie.close
+    (tie.spec
+    Inv-loop
+    μ-loop
+    add-end
+    loop-holds
+    row-at-requires
+    row-fits-requires
+    add-month
+    loop-less
+    loop-again
+    returns
+    returns-2)

@@ -1,0 +1,48 @@
+-- `book::read_book` meets its contract: each way out is one case of `bookRefusal` and `bookTable`.
+-- Assumes nothing.
+use mathlib.Core.Path.{_≡_, sym, ap, _∙_}
+use Prim.Native.Nat.{ℕ}
+use lib.ListN.{length, replicate}
+use borrow.Author.Needs.{needs}
+use denote.Ref.{now}
+use Rattle.book.proofs.Answers.{refused-length, blank-length, refused-block, blank-block, accepted-table}
+use Rattle.book.proofs.read_book.Statement.{statement}
+use Rattle.book.proofs.read_book.Tie as tie
+
+-- the table's length is its type's
+full : (c : tie.After-blank-arg) → length (now (c .before .before .before .args .table)) ≡ 1955
+full c = search needs
+
+blank-requires : tie.Need-blank-requires
+blank-requires c κs = search needs
+
+returns : tie.Need-returns
+returns c =
+    let book = now (c .before .before .before .before .args .book) in
+    let short = c .before .before .if1 .taken in
+    (refused-length book short, blank-length book short _ (c .blank .ensures ∙ ap (λ (n : ℕ). replicate n 0) (full (c .before))))
+
+decode-blocks-requires : tie.Need-decode-blocks-requires
+decode-blocks-requires c κs = search needs
+
+blank-requires-2 : tie.Need-blank-requires-2
+blank-requires-2 c κs = search needs
+
+returns-2 : tie.Need-returns-2
+returns-2 c =
+    let d = c .before .before .before in
+    let book = now (d .before .before .before .before .args .book) in
+    let long = d .before .before .if1 .left in
+    (refused-block book long _ _ (d .decode-blocks .ensures), blank-block book long _ _ (d .decode-blocks .ensures) (c .before .before .if2 .taken) _ (c .blank2 .ensures ∙ ap (λ (n : ℕ). replicate n 0) (d .decode-blocks .ensures .long)))
+
+returns-3 : tie.Need-returns-3
+returns-3 c =
+    let d = c .before in
+    let book = now (d .before .before .before .before .args .book) in
+    let long = d .before .before .if1 .left in
+    (sym (c .if2 .left) ∙ refused-block book long _ _ (d .decode-blocks .ensures), accepted-table book long _ _ (d .decode-blocks .ensures) (c .if2 .left))
+
+pub read-book-spec : {M : Type 1} → statement M
+read-book-spec =
+    tie.close
+    (tie.spec blank-requires returns decode-blocks-requires blank-requires-2 returns-2 returns-3)
