@@ -117,7 +117,7 @@ module _ (book : List ℕ) (n : ℕ) (table : List ℕ) (long : length table ≡
           }
 
 -- number j of the book
-abbrev numberAt : List ℕ → ℕ → ℕ
+abbrev pub numberAt : List ℕ → ℕ → ℕ
 numberAt book j = fieldAt (blockAt book (j / 115)) (4 + 4 * (j % 115))
 
 -- the loop over the blocks, at block n

@@ -1,3 +1,5 @@
+pub mod Accepted
 pub mod Answers
 pub mod Decode
+pub mod ReadBack
 pub mod Tests

@@ -1,2 +1,3 @@
-pub mod Row
 pub mod Book
+pub mod Laws
+pub mod Row

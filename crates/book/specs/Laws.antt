@@ -1,0 +1,42 @@
+-- The laws of the rate book.
+-- Assumes nothing.
+use mathlib.Core.Path.{_≡_}
+use mathlib.Core.Bool.{true}
+use mathlib.Core.List.{List}
+use Prim.Native.Nat.{ℕ, _+_, _*_, _≤_, _<_}
+use lib.ListN.{length, getD}
+use Rattle.block.specs.Block.{fieldAt, checkAt, checkOf, blockAt}
+use Rattle.block.specs.Writer.{written, bodyOf, BodyPasses}
+use Rattle.book.specs.Row.{rowOf, rowsFit, RowLimits}
+use Rattle.book.specs.Book.{blockNumbers, bookBlockRefusal, numbersOf, bookRefusal, bookTable}
+
+-- each row of an accepted book is within its limits
+abbrev pub RowsWithin : Type 0
+RowsWithin = (book : List ℕ) → bookRefusal book ≡ 0 → (month : ℕ) → month ≤ 84 → RowLimits (rowOf (bookTable book) month)
+
+-- only blocks with the right check are accepted
+abbrev pub RightChecks : Type 0
+RightChecks =
+    (book : List ℕ) → bookRefusal book ≡ 0 → (n : ℕ) → n < 17 → fieldAt (blockAt book n) checkAt ≡ checkOf (blockAt book n)
+
+-- block n of a book is read as these 115 numbers
+pub record BlockReads (book : List ℕ) (n : ℕ) (numbers : List ℕ) : Type 0 where
+  pub refusal : bookBlockRefusal (blockAt book n) n ≡ 0
+  pub read : (j : ℕ) → j < 115 → getD (numbersOf book) (115 * n + j) 0 ≡ getD numbers j 0
+
+-- a body that 4 to 8 let pass, written as block n of a book, is read as its numbers
+abbrev pub BodyReadBack : Type 0
+BodyReadBack =
+    (book body target : List ℕ) (n : ℕ) → n < 17 → length target ≡ 512 → blockAt book n ≡ written body target
+    → BodyPasses body n 1 464 → rowsFit (blockNumbers body) 0 ≡ true → BlockReads book n (blockNumbers body)
+
+-- 115 numbers of 32 bits whose rows are within their limits, laid out, written as block n of a book and read, are these numbers
+abbrev pub NumbersReadBack : Type 0
+NumbersReadBack =
+    (book numbers target : List ℕ) (n : ℕ) → n < 17 → length target ≡ 512 → blockAt book n ≡ written (bodyOf n 1 numbers) target
+    → length numbers ≡ 115 → ((k : ℕ) → getD numbers k 0 < 4_294_967_296) → rowsFit numbers 0 ≡ true → BlockReads book n numbers
+
+-- a book of which no block is refused is accepted
+abbrev pub WholeBook : Type 0
+WholeBook =
+    (book : List ℕ) → length book ≡ 8704 → ((n : ℕ) → n < 17 → bookBlockRefusal (blockAt book n) n ≡ 0) → bookRefusal book ≡ 0
