@@ -1,3 +1,4 @@
+pub mod Bounds
 pub mod Every
 pub mod Refusals
 pub mod Sums
