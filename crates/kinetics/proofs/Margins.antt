@@ -1,0 +1,97 @@
+-- New P against the exact solution: F × D × new P + p × (Q - F × D) is N and all the remainders, which are at most 10 × F × D.
+-- Assumes nothing.
+use mathlib.Core.Path.{_≡_, ap, sym}
+use mathlib.Core.List.{List}
+use Prim.Native.Nat.{ℕ, _+_, _-_, _*_, _≤_, _<_}
+use native.Mathlib.Nat.{le-of-lt, le-of-eq, mul-le-mul-left, mul-le-mul-right, mod-lt, le-of-mul-le-mul-left, add-sub-of-le, zero-mod, zero-mul}
+use native.Mathlib.Omega.{arith}
+use Rattle.numbers.specs.Sums.{sumTo}
+use Rattle.numbers.proofs.Sums.{weigh-above}
+use Rattle.book.specs.declared.Rates.{Rates}
+use Rattle.book.specs.Row.{unit, out, RateLimits}
+use Rattle.kinetics.specs.Step.{plasma, amount, compartmentDivisor, solvedPlasma, newAmount, newPlasma}
+use Rattle.kinetics.specs.Solution.{product, denominator, numerator}
+use Rattle.kinetics.proofs.Divisors.{lessBack, netOut, compartmentDivisor-pos, denominator-rest, denominator-rest-le}
+use Rattle.kinetics.proofs.Balance.{amountRemainder, exitRemainder, urineRemainder, netRemainder, six-balance, urine-divides, numerator-eq, solvedPlasma-le, solvedPlasma-ge, scale-pos, newPlasma-eq}
+
+-- all the remainders of a step, scaled
+unfoldable remainders : Rates → List ℕ → ℕ → ℕ
+remainders r lead p = netRemainder r lead p + product r * (sumTo 6 (exitRemainder r lead p) + urineRemainder r p)
+
+module _ (r : Rates) (lead : List ℕ) (p : ℕ) where
+  exitRemainder-sum : sumTo 6 (exitRemainder r lead p) ≤ 2 * unit
+  unfolding sumTo exitRemainder
+  exitRemainder-sum =
+      simp (zero-mul, zero-mod)
+      (omega (arith, mod-lt (r .faeces * newAmount r lead p 1) {m = unit} (omega arith), mod-lt (r .skin * newAmount r lead p 3) {m = unit} (omega arith)))
+
+  urineRemainder-le : urineRemainder r p ≤ unit
+  unfolding urineRemainder
+  urineRemainder-le = le-of-lt (mod-lt (r .urine * p) {m = unit} (omega arith))
+
+  netRemainder-le : netRemainder r lead p ≤ product r * sumTo 6 (lessBack r)
+  unfolding netRemainder product amountRemainder
+  netRemainder-le =
+      weigh-above 6 (compartmentDivisor r) (lessBack r) _
+      (λ i l. omega (arith, mul-le-mul-left (lessBack r i) (le-of-lt (mod-lt (amount lead i * unit + out r i * p) (compartmentDivisor-pos r i)))))
+
+  -- each c is at most D/2
+  lessBack-sum : RateLimits r → sumTo 6 (lessBack r) ≤ 7 * unit
+  unfolding sumTo lessBack
+  lessBack-sum lim = omega arith
+
+  remainders-le : RateLimits r → remainders r lead p ≤ 10 * (product r * unit)
+  unfolding remainders
+  remainders-le lim =
+      omega (
+        arith,
+        netRemainder-le,
+        mul-le-mul-left (product r) (lessBack-sum lim),
+        mul-le-mul-left (product r) exitRemainder-sum,
+        mul-le-mul-left (product r) urineRemainder-le,
+      )
+
+-- the key identity, on plain numbers as in `spent-scaled`; x is new P
+key-identity : (F D w T G N p A X O R Y h I B x : ℕ)
+    → F * (D * (A + X) + O) + (D * G + R) ≡ F * (D * B) + p * T
+    → Y * D + h ≡ w * p → N ≡ D * (F * I + G) → x + A + X + Y ≡ I + B
+    → (F * D) * x + p * (F * w + T) ≡ N + (R + F * (O + h))
+key-identity F D w T G N p A X O R Y h I B x bal urine eN cons =
+    omega (arith, ap (λ (y : ℕ). F * y) urine, ap (λ (y : ℕ). (F * D) * y) cons)
+
+-- K is F × D, S is Q - K, and X is N - p × Q
+lower : (K S Q N R p x : ℕ) → Q ≡ K + S → K * x + p * S ≡ N + R → p * Q ≤ N → 0 < K → N ≤ x * Q
+lower K S Q N R p x eQ id low pos =
+    le-of-mul-le-mul-left
+    (omega (arith, ap (λ (y : ℕ). y * Q) id, ap (λ (y : ℕ). N * y) eQ, mul-le-mul-right S low))
+    pos
+
+upper : (K S Q N R p x X : ℕ) → Q ≡ K + S → K * x + p * S ≡ N + R → N ≡ p * Q + X → R ≤ 10 * K → S ≤ 64 * K → 0 < K
+    → x * Q ≤ N + 10 * Q + 64 * X
+upper K S Q N R p x X eQ id eN hR hS pos =
+    le-of-mul-le-mul-left
+    (omega (arith, ap (λ (y : ℕ). y * Q) id, ap (λ (y : ℕ). N * y) eQ, ap (λ (y : ℕ). y * S) eN, mul-le-mul-right Q hR, mul-le-mul-left X hS))
+    pos
+
+module _ (r : Rates) (lead : List ℕ) (u : ℕ) where
+  identity : product r * unit * newPlasma r lead u + solvedPlasma r lead u * (product r * r .urine + netOut r)
+      ≡ numerator r (plasma lead) (amount lead) u + remainders r lead (solvedPlasma r lead u)
+  unfolding remainders
+  identity =
+      let p = solvedPlasma r lead u in
+      key-identity _ _ _ _ _ _ _ _ _ _ _ _ _ (plasma lead + u) _ _ (six-balance r lead p) (urine-divides r lead p)
+      (numerator-eq r lead u) (newPlasma-eq r lead u)
+
+  pub margin-least : numerator r (plasma lead) (amount lead) u ≤ newPlasma r lead u * denominator r
+  margin-least = lower _ _ _ _ _ _ _ (denominator-rest r) identity (solvedPlasma-le r lead u) (scale-pos r lead u)
+
+  pub margin-most : RateLimits r
+      → unit * (newPlasma r lead u * denominator r - numerator r (plasma lead) (amount lead) u)
+      < 459 * unit * denominator r + 384 * numerator r (plasma lead) (amount lead) u
+  margin-most lim =
+      let p = solvedPlasma r lead u in
+      let short = numerator r (plasma lead) (amount lead) u - p * denominator r in
+      let over-by =
+      upper _ _ _ _ _ _ _ short (denominator-rest r) identity (sym (add-sub-of-le (solvedPlasma-le r lead u)))
+      (remainders-le r lead p lim) (denominator-rest-le r lim) (scale-pos r lead u) in
+      omega (arith, over-by, solvedPlasma-le r lead u, solvedPlasma-ge r lead u, denominator-rest r, mul-le-mul-left p (le-of-eq (sym (denominator-rest r))))

@@ -1,0 +1,29 @@
+-- What the calls ask of their callers, and what they promise each other.
+-- Assumes nothing.
+use mathlib.Core.Path.{_≡_}
+use Prim.Native.Nat.{ℕ, _^_, _+_, _≤_, _<_}
+use lib.ListN.{getD}
+use Rattle.book.specs.declared.Rates.{Rates}
+use Rattle.book.specs.Row.{RateLimits}
+use Rattle.kinetics.specs.declared.State.{State}
+use Rattle.kinetics.specs.declared.Prepared.{Prepared}
+use Rattle.kinetics.specs.Step.{burden, compartmentDivisor, retained, divisor, urineLedger, faecesLedger, skinLedger}
+
+-- the most lead that a child may have, with the step's uptake: 5 × 10^10 pg (refusals 20 and 22)
+abbrev pub burdenLimit : ℕ
+burdenLimit = 50_000_000_000
+
+-- q is what the rates come to: the six Ei, d without its red-cell term, and d
+pub record Prepares (r : Rates) (q : Prepared) : Type 0 where
+  pub divisors : (i : ℕ) → i < 6 → getD (q .divisors) i 0 ≡ compartmentDivisor r i
+  pub fixed : q .fixed + retained r 0 ≡ divisor r
+  pub whole : q .divisor ≡ divisor r
+
+-- a step that absorbs u is within the limits, and each ledger has room for its exit
+pub record Ready (r : Rates) (q : Prepared) (s : State) (u : ℕ) : Type 0 where
+  pub limits : RateLimits r
+  pub prepared : Prepares r q
+  pub room : burden (s .lead) + u ≤ burdenLimit
+  pub urine-room : urineLedger s + burdenLimit < 2 ^ 64
+  pub faeces-room : faecesLedger s + burdenLimit < 2 ^ 64
+  pub skin-room : skinLedger s + burdenLimit < 2 ^ 64

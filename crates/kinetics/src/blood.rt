@@ -1,0 +1,27 @@
+// The blood figure at a month's end (B-9g, B-10).
+ghost use mathlib.Core.Path.{_≡_};
+ghost use Prim.Native.Nat.{_≤_};
+ghost use Rattle.book.specs.Row.{RowLimits};
+ghost use Rattle.kinetics.specs.Step.{burden};
+ghost use Rattle.kinetics.specs.Blood.{bloodOf};
+ghost use Rattle.numbers.specs.Bounds.{Is};
+ghost use Rattle.kinetics.specs.Ready.{burdenLimit};
+use super::State;
+use book::Row;
+
+// The ECF's volume, in hundredths of the blood's.
+const ECF_PERCENT: u64 = 73;
+
+// Blood lead, in thousandths of µg/dL.
+pub fn blood(row: Row, state: State) -> u32
+    requires { ⌜ (RowLimits row) × (burden (state .lead) ≤ burdenLimit) ⌝ }
+    ensures { λ n. ⌜ Is (bloodOf row (state .lead)) 50_000_000 n ⌝ }
+{
+    let volume = row.blood_volume;
+    let plasma_volume = row.plasma_volume;
+    let ecf_volume = ECF_PERCENT * volume / 100;
+    let lead = state.lead;
+    let in_plasma = lead[0] * plasma_volume / (ecf_volume + plasma_volume);
+    let figure = (lead[1] + in_plasma) / volume;
+    figure as u32
+}

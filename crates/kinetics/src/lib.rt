@@ -1,0 +1,23 @@
+// The child's kinetics: one step of the compartments, the amounts at birth, the blood figure, and each step's share of a day's uptake.
+pub mod prepare; // prepare.rt: what depends on the row alone
+pub mod step; // step.rt: one step (B-8, B-9)
+pub mod birth; // birth.rt: the amounts at birth (B-7)
+pub mod blood; // blood.rt: the blood figure (B-9g, B-10)
+pub mod share; // share.rt: what each step of a day absorbs
+
+// D, the unit of the rates: a rate of D is the whole amount a step.
+pub const UNIT: u64 = 100_000_000;
+
+// A child. Lead and ledgers are in pg.
+pub struct State {
+    pub month: u64,
+    pub lead: [u64; 7], // plasma with ECF, red cells, liver, kidney, other, trabecular, cortical
+    pub ledgers: [u64; 3], // what has left by urine, by faeces, by skin, hair and nails
+}
+
+// The divisors of a month's rates, in units of 1/D, computed once for all its steps.
+pub struct Prepared {
+    pub divisors: [u64; 6], // E1 to E6
+    pub fixed: u64, // d without its red-cell term
+    pub divisor: u64, // d
+}

@@ -1,0 +1,52 @@
+// What a month's steps share: the divisors E1 to E6, and d (point 1 of "One step").
+ghost use mathlib.Core.Path.{_≡_};
+ghost use Prim.Native.Nat.{_<_};
+ghost use Rattle.book.specs.Row.{exit, RateLimits};
+ghost use Rattle.kinetics.specs.Step.{compartmentDivisor, retained};
+ghost use Rattle.numbers.specs.Bounds.{Is};
+ghost use Rattle.kinetics.specs.Ready.{Prepares};
+use super::Prepared;
+use super::UNIT;
+use book::Rates;
+
+// Ei; c is the rate out of the body from compartment i.
+fn divisor_at(rates: Rates, c: u64, i: usize) -> u64
+    requires { ⌜ (RateLimits rates) × (i < 6) × (c ≡ exit rates i) ⌝ }
+    ensures { λ e. ⌜ e ≡ compartmentDivisor rates i ⌝ }
+{
+    UNIT + rates.back[i] + c
+}
+
+// ai less what of it comes back within the step; e is Ei.
+fn retained_at(rates: Rates, e: u64, i: usize) -> u64
+    requires { ⌜ (RateLimits rates) × (i < 6) × (e ≡ compartmentDivisor rates i) ⌝ }
+    ensures { λ n. ⌜ Is (retained rates i) 6_400_000_000 n ⌝ }
+{
+    let a = rates.out[i];
+    a - a * rates.back[i] / e
+}
+
+// The divisors of a month's rates.
+pub fn prepare(rates: Rates) -> Prepared
+    requires { ⌜ RateLimits rates ⌝ }
+    ensures { λ q. ⌜ Prepares rates q ⌝ }
+{
+    let e1 = divisor_at(rates, 0, 0);
+    let e2 = divisor_at(rates, rates.faeces, 1);
+    let e3 = divisor_at(rates, 0, 2);
+    let e4 = divisor_at(rates, rates.skin, 3);
+    let e5 = divisor_at(rates, 0, 4);
+    let e6 = divisor_at(rates, 0, 5);
+    let red_cells = retained_at(rates, e1, 0);
+    let liver = retained_at(rates, e2, 1);
+    let kidney = retained_at(rates, e3, 2);
+    let other = retained_at(rates, e4, 3);
+    let trabecular = retained_at(rates, e5, 4);
+    let cortical = retained_at(rates, e6, 5);
+    let fixed = UNIT + rates.urine + liver + kidney + other + trabecular + cortical;
+    Prepared {
+        divisors: [e1, e2, e3, e4, e5, e6],
+        fixed,
+        divisor: fixed + red_cells,
+    }
+}
