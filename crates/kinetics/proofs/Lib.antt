@@ -1,4 +1,4 @@
--- Lemmas of the crate: the laws of the step, the numbers that fit 64 bits, and the bench figures.
+-- Lemmas of the crate: the laws of the step, and the numbers that fit 64 bits.
 pub mod Compartments
 pub mod Divisors
 pub mod Balance
@@ -9,4 +9,3 @@ pub mod Assembly
 pub mod DayShares
 pub mod Newborn
 pub mod Figure
-pub mod Bench

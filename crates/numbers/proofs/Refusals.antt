@@ -18,6 +18,10 @@ pub orElse-last : (r : ℕ) → orElse r 0 ≡ r
 orElse-last zero = refl
 orElse-last (suc r) = refl
 
+pub orElse-assoc : (p r s : ℕ) → orElse p (orElse r s) ≡ orElse (orElse p r) s
+orElse-assoc zero r s = refl
+orElse-assoc (suc p) r s = refl
+
 -- where none is answered, there is neither
 pub orElse-none : (r s : ℕ) → orElse r s ≡ 0 → (r ≡ 0) × (s ≡ 0)
 orElse-none zero s e = (refl, e)

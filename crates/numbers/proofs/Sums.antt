@@ -46,6 +46,18 @@ unfolding sumTo
 sum-le zero f g h = le-refl 0
 sum-le (suc n) f g h = omega (arith, sum-le n f g (λ i l. h i (omega arith)), h n (omega arith))
 
+-- fewer terms sum to no more
+pub sum-mono : (f : ℕ → ℕ) (k n : ℕ) → k ≤ n → sumTo k f ≤ sumTo n f
+unfolding sumTo
+sum-mono f k zero h =
+    let e : k ≡ 0 = omega arith in
+    rw e (le-refl 0)
+sum-mono f k (suc n) h =
+    elim (decLt n k) [
+      | yes l ↦ let e : k ≡ suc n = omega arith in rw e (le-refl (sumTo n f + f n))
+      | no l ↦ omega (arith, sum-mono f k n (omega arith))
+    ]
+
 -- one of the terms is at most the sum
 pub sum-has : (n : ℕ) (f : ℕ → ℕ) (i : ℕ) → i < n → f i ≤ sumTo n f
 unfolding sumTo

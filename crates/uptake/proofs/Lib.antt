@@ -1,5 +1,4 @@
--- Bounds of the products, the laws, the loops over the media, accepted exposures, and the bench figures.
-pub mod Bench
+-- Bounds of the products, the laws, the loops over the media, and accepted exposures.
 pub mod Fits
 pub mod Laws
 pub mod Loops

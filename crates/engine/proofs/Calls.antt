@@ -1,0 +1,130 @@
+-- The month's ways out, from the innermost part to the call, and birth's.
+-- Assumes nothing.
+use mathlib.Core.Path.{_≡_, refl, sym, ap, ap₂, _∙_}
+use mathlib.Core.List.{List}
+use Prim.Native.Nat.{ℕ, zero, suc, _+_, _*_, _≤_, _<_}
+use native.Mathlib.Nat.{mul-le-mul-right}
+use native.Mathlib.Omega.{arith}
+use Rattle.numbers.specs.Choice.{orElse}
+use Rattle.numbers.proofs.Refusals.{orElse-first, orElse-last}
+use Rattle.site.specs.declared.Scenario.{Scenario}
+use Rattle.book.specs.declared.Rates.{Rates}
+use Rattle.book.specs.declared.Row.{Row}
+use Rattle.book.specs.Row.{RowLimits, rowOf}
+use Rattle.uptake.specs.Intake.{intakeRefusal}
+use Rattle.kinetics.specs.declared.State.{State}
+use Rattle.kinetics.specs.declared.Prepared.{Prepared}
+use Rattle.kinetics.specs.Ready.{Prepares}
+use Rattle.engine.specs.declared.BirthAnswer.{BirthAnswer}
+use Rattle.engine.specs.declared.MonthAnswer.{MonthAnswer}
+use Rattle.engine.specs.declared.Reached.{Reached}
+use Rattle.engine.specs.Files.{Files, filesRefusal, scenarioIn, tableIn}
+use Rattle.engine.specs.State.{zeroState, stateRefusal}
+use Rattle.engine.specs.Steps.{daysShares, lastFrom, stepsRefusal}
+use Rattle.engine.specs.Birth.{newborn, newbornRefusal, birthRefusal, birthAnswer, birthOf}
+use Rattle.engine.specs.Month.{monthAfter, exposureIn, monthUptake, monthRates, monthShares, refusedMonth, acceptedMonth, monthAnswer, childRefusal, monthLast, monthRefusal, monthOf}
+use Rattle.site.specs.declared.Exposure.{Exposure}
+use Rattle.uptake.specs.Uptake.{dayUptake}
+use Rattle.uptake.specs.Ready.{Weights}
+use Rattle.engine.specs.Ready.{Decoded, Steppable, ReachedBy, steppedMonth, monthFrom, childMonth}
+use Rattle.engine.proofs.Passed.{passed-sound, passed-before}
+
+-- a number that is not 0 is answered as a refusal
+refused-answer : (r : ℕ) (a last : State) (row : Row) → (r ≡ 0 → ⊥) → refusedMonth r a ≡ monthAnswer r a last row
+refused-answer zero a last row h = absurd (h refl)
+refused-answer (suc r) a last row h = refl
+
+-- thirty days of six steps can be taken from a state that a month can follow
+pub month-steppable : {row : Row} {q : Prepared} (a : State) {t : ℕ} → stateRefusal a ≡ 0 → RowLimits row → Prepares (row .rates) q → t ≤ 6_000_000_000
+    → Steppable (row .rates) q a 6 t 180_000_000_000
+month-steppable a passed limits prepared daily =
+    let sound = passed-sound a passed in
+    record {
+      limits = limits .rates;
+      prepared = prepared;
+      some = omega arith;
+      few = omega arith;
+      daily = daily;
+      held = sound .held;
+      room = omega (arith, sound .all, passed-before a passed);
+    }
+
+-- the body weights that the code reads
+pub weights-within : {scenario : Scenario} {table : List ℕ} (d : Decoded scenario table) {m : ℕ} → m ≤ 84 → {row row24 : Row} → row ≡ rowOf table m → row24 ≡ rowOf table 24
+    → Weights (row .«body_weight») (row24 .«body_weight»)
+weights-within d {m} h er e24 =
+    rw (er, e24)
+    (record {
+      least = d .row m h .body-least;
+      most = d .row m h .body-most;
+      least24 = d .row 24 (omega arith) .body-least;
+      most24 = d .row 24 (omega arith) .body-most;
+    })
+
+-- T by what the code reads
+pub taken-uptake : (scenario : Scenario) (table : List ℕ) (m : ℕ) {e : Exposure} → e ≡ exposureIn scenario m → {row row24 : Row} → row ≡ rowOf table m
+    → row24 ≡ rowOf table 24 → dayUptake e (row .«body_weight») (row24 .«body_weight») ≡ monthUptake scenario table m
+unfolding monthUptake
+taken-uptake scenario table m ee er e24 = rw (ee, er, e24)
+
+-- the steps' part
+module _ (a : State) (row : Row) (t : ℕ) (x : Reached) (r : ReachedBy (row .rates) a (daysShares 6 t 30) (30 * t) x) where
+  pub stepped-refused : (x .refusal ≡ 0 → ⊥) → refusedMonth (x .refusal) a ≡ steppedMonth 6 a row t
+  unfolding steppedMonth
+  stepped-refused h = rw (← r .refused) (refused-answer (x .refusal) a _ row h)
+
+  pub stepped-accepted : x .refusal ≡ 0 → acceptedMonth a (x .state) row ≡ steppedMonth 6 a row t
+  unfolding steppedMonth
+  stepped-accepted z = rw (sym (r .refused) ∙ z, ← r .reached z)
+
+module _ (s : ℕ) (a : State) (scenario : Scenario) (table : List ℕ) where
+  -- refusal 9, and the steps
+  pub month-intake-refused : (r : ℕ) → r ≡ intakeRefusal (exposureIn scenario (monthAfter a)) → (r ≡ 0 → ⊥) → refusedMonth r a ≡ monthFrom s a scenario table
+  unfolding monthFrom
+  month-intake-refused r e h = rw (← e, orElse-first r _ h) (refused-answer r a _ _ h)
+
+  pub month-stepped : intakeRefusal (exposureIn scenario (monthAfter a)) ≡ 0 → (row : Row) → row ≡ rowOf table (monthAfter a) → (t : ℕ)
+      → t ≡ monthUptake scenario table (monthAfter a) → steppedMonth s a row t ≡ monthFrom s a scenario table
+  unfolding steppedMonth monthFrom monthLast monthShares
+  month-stepped z row er t et = rw (z, er, et)
+
+  -- refusals 20 and 21, and what follows
+  pub child-refused : (r : ℕ) → r ≡ stateRefusal a → (r ≡ 0 → ⊥) → refusedMonth r a ≡ childMonth s a scenario table
+  unfolding childMonth childRefusal
+  child-refused r e h = rw (← e, orElse-first r _ h) (refused-answer r a _ _ h)
+
+  pub child-passed : stateRefusal a ≡ 0 → monthFrom s a scenario table ≡ childMonth s a scenario table
+  unfolding monthFrom childMonth childRefusal
+  child-passed z =
+      rw z
+      (ap (λ (n : ℕ). monthAnswer (orElse (intakeRefusal (exposureIn scenario (monthAfter a))) n) a (monthLast s a scenario table) (rowOf table (monthAfter a)))
+      (sym (orElse-last (stepsRefusal (monthRates table (monthAfter a)) a (monthShares s scenario table (monthAfter a))))))
+
+-- the files' refusals, and what follows
+module _ (s : ℕ) (a : State) (f : Files) where
+  pub month-files-refused : (r : ℕ) → r ≡ filesRefusal f → (r ≡ 0 → ⊥) → refusedMonth r a ≡ monthOf s a f
+  unfolding monthOf monthRefusal
+  month-files-refused r e h = rw (← e, orElse-first r _ h) (refused-answer r a _ _ h)
+
+  pub month-passed : filesRefusal f ≡ 0 → childMonth s a (scenarioIn f) (tableIn f) ≡ monthOf s a f
+  unfolding monthOf monthRefusal childMonth
+  month-passed z =
+      rw z
+      (ap (λ (n : ℕ). monthAnswer n a (monthLast s a (scenarioIn f) (tableIn f)) (rowOf (tableIn f) (monthAfter a)))
+      (sym (orElse-last (childRefusal s a (scenarioIn f) (tableIn f)))))
+
+module _ (f : Files) where
+  refused-birth : (r : ℕ) (child : State) → (r ≡ 0 → ⊥) → _≡_ {A = BirthAnswer} (record { refusal = r; state = zeroState }) (birthAnswer r child)
+  refused-birth zero child h = absurd (h refl)
+  refused-birth (suc r) child h = refl
+
+  pub birth-files-refused : (r : ℕ) → r ≡ filesRefusal f → (r ≡ 0 → ⊥) → (none : State) → none ≡ zeroState
+      → _≡_ {A = BirthAnswer} (record { refusal = r; state = none }) (birthOf f)
+  unfolding birthOf birthRefusal
+  birth-files-refused r e h none ez = rw (← e, orElse-first r _ h, ez) (refused-birth r _ h)
+
+  pub birth-passed : filesRefusal f ≡ 0 → birthAnswer (newbornRefusal (scenarioIn f) (tableIn f)) (newborn (scenarioIn f) (tableIn f)) ≡ birthOf f
+  unfolding birthOf birthRefusal
+  birth-passed z =
+      rw z
+      (ap (λ (n : ℕ). birthAnswer n (newborn (scenarioIn f) (tableIn f))) (sym (orElse-last (newbornRefusal (scenarioIn f) (tableIn f)))))

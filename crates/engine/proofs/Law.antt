@@ -1,0 +1,87 @@
+-- Demand 3, proved.
+-- Assumes nothing.
+use Prim.Native.Nat.{ℕ, zero, suc, _*_, _≤_, _<_}
+use mathlib.Core.Path.{_≡_, refl, _∙_, sym}
+use mathlib.Core.List.{List, [], _∷_, map}
+use native.Mathlib.Nat.{sub-zero, suc-sub-suc, le-of-suc-le-suc, not-suc-le-zero}
+use lib.ListN.{length, getD, take}
+use Rattle.kinetics.specs.declared.State.{State}
+use Rattle.engine.specs.Files.{Files}
+use Rattle.engine.specs.Birth.{birthOf}
+use Rattle.engine.specs.Month.{monthRefusal, monthOf}
+use Rattle.engine.specs.Conservation.{Each, totalOf, Month, dailyOf, stepsIn, keep, accepted, numbers, endsOf, between, Balanced, WholeMonth, Demand3}
+use Rattle.engine.proofs.Passed.{Sound}
+use Rattle.engine.proofs.Never20.{month-not-20}
+use Rattle.engine.proofs.Course.{stay, join}
+use Rattle.engine.proofs.MonthLaw.{Accepted, month-refusal, month-kept, month-accepted, month-sound, birth-sound}
+
+-- accepted months, the first from a, each later one from what the one before answered
+abbrev Linked : ℕ → State → List Month → Type 0
+Linked s a [] = Unit {0}
+Linked s a (m ∷ ms) = (m .before ≡ a) × (Accepted s m × Linked s (m .after) ms)
+
+abbrev takenIn : List Month → ℕ
+takenIn ms = totalOf (λ (m : Month). 30 * dailyOf m) ms
+
+whole : (s : ℕ) (a : State) (ms : List Month) → Linked s a ms → Each (WholeMonth s) ms
+whole s a [] l = tt
+whole s a (m ∷ ms) l = (l .1 .0 .whole, whole s (m .after) ms (l .1 .1))
+
+-- d is what the specification's lists answer past their end
+module _ (s : ℕ) (d : State) where
+  abbrev endAt : State → List Month → ℕ → State
+  endAt a ms i = getD (endsOf a ms) i d
+
+  starts : (a : State) (ms : List Month) → Linked s a ms → (i : ℕ) → i < length ms
+      → getD (map (λ (m : Month). m .before) ms) i d ≡ endAt a ms i
+  starts a [] l i h = absurd (not-suc-le-zero h)
+  starts a (m ∷ ms) l zero h = l .0
+  starts a (m ∷ ms) l (suc i) h = starts (m .after) ms (l .1 .1) i (le-of-suc-le-suc h)
+
+  -- the first j months balance
+  front : (a : State) (ms : List Month) → Linked s a ms → (j : ℕ) → j ≤ length ms
+      → Balanced a (endAt a ms j) (stepsIn s (take j ms)) (takenIn (take j ms))
+  front a ms l zero h = stay a
+  front a [] l (suc j) h = absurd (not-suc-le-zero h)
+  front a (m ∷ ms) l (suc j) h =
+      rw (← l .0) (join _ _ (l .1 .0 .balance) (front (m .after) ms (l .1 .1) j (le-of-suc-le-suc h)))
+
+  -- the months between any two ends balance
+  span : (a : State) (ms : List Month) → Linked s a ms → (i j : ℕ) → i ≤ j → j ≤ length ms
+      → Balanced (endAt a ms i) (endAt a ms j) (stepsIn s (between i j ms)) (takenIn (between i j ms))
+  span a ms l zero j h k = rw sub-zero (front a ms l j k)
+  span a ms l (suc i) zero h k = absurd (not-suc-le-zero h)
+  span a [] l (suc i) (suc j) h k = absurd (not-suc-le-zero k)
+  span a (m ∷ ms) l (suc i) (suc j) h k =
+      rw suc-sub-suc (span (m .after) ms (l .1 .1) i j (le-of-suc-le-suc h) (le-of-suc-le-suc k))
+
+module _ (s : ℕ) (pos : 0 < s) where
+  -- a call before the accepted months ms
+  kept : (a : State) (f : Files) (ms : List Month) → Linked s (monthOf s a f .state) ms
+      → (r : ℕ) → monthRefusal s a f ≡ r
+      → Linked s a (keep r (record { before = a; files = f; after = monthOf s a f .state }) ms)
+  kept a f ms l zero e = (refl, (month-accepted s pos a f e, l))
+  kept a f ms l (suc r) e = rw (month-kept s a f r e) at l
+
+  linked : (a : State) (calls : List Files) → Linked s a (accepted s a calls)
+  unfolding accepted
+  linked a [] = tt
+  linked a (f ∷ fs) = kept a f _ (linked (monthOf s a f .state) fs) (monthOf s a f .refusal) (sym (month-refusal s a f))
+
+  never-20 : (a : State) (calls : List Files) → Sound a → Each (λ (r : ℕ). r ≡ 20 → ⊥) (numbers s a calls)
+  unfolding numbers
+  never-20 a [] k = tt
+  never-20 a (f ∷ fs) k =
+      (λ e. month-not-20 s f k (sym (month-refusal s a f) ∙ e), never-20 (monthOf s a f .state) fs (month-sound s pos a f k))
+
+pub demand3 : Demand3
+demand3 s pos birth born calls =
+    let a = birthOf birth .state in
+    let months = accepted s a calls in
+    let l = linked s pos a calls in
+    record {
+      whole = whole s a months l;
+      starts = starts s a a months l;
+      balance = span s a a months l;
+      no-20 = never-20 s pos a calls (birth-sound birth born);
+    }

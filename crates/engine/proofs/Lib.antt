@@ -1,0 +1,15 @@
+-- Reading, the calls' ways out, the loops, and demand 3.
+pub mod Accepted
+pub mod Answers
+pub mod Bench
+pub mod Calls
+pub mod Course
+pub mod Law
+pub mod Loops
+pub mod MonthLaw
+pub mod Never20
+pub mod Passed
+pub mod Runs
+pub mod Shares
+pub mod StateCheck
+pub mod Sums

@@ -1,0 +1,163 @@
+-- The loop over a run's months: where it begins, what a turn keeps, what is written when it stops; and the run's ways out.
+-- Assumes nothing.
+use Prim.Native.Nat.{ℕ, zero, suc, _+_, _-_, _≤_, _<_}
+use mathlib.Core.Path.{_≡_, refl, ap, _∙_, sym}
+use mathlib.Core.List.{List, [], _∷_, _++_, append-nil, append-assoc}
+use native.Mathlib.Omega.{arith}
+use native.Mathlib.Numerals.{add-one}
+use borrow.Author.Tests.{eq-eqb, ne-eqb}
+use lib.ListN.{length, take, drop, set, length-set, take-append-drop}
+use lib.Seq.{length-take-le, take-suc-set, drop-set-lt, drop-drop}
+use Rattle.numbers.proofs.Refusals.{orElse-first, orElse-last}
+use Rattle.book.specs.Row.{rowOf}
+use Rattle.site.specs.declared.Scenario.{Scenario}
+use Rattle.kinetics.specs.declared.State.{State}
+use Rattle.engine.specs.declared.BirthAnswer.{BirthAnswer}
+use Rattle.engine.specs.declared.MonthAnswer.{MonthAnswer}
+use Rattle.engine.specs.declared.RunAnswer.{RunAnswer}
+use Rattle.engine.specs.Files.{Files, lengthRefusal, filesRefusal, scenarioIn, tableIn}
+use Rattle.engine.specs.State.{zeroState}
+use Rattle.engine.specs.Birth.{newborn, newbornRefusal, birthRefusal, birthAnswer, birthOf}
+use Rattle.engine.specs.Month.{monthAfter, monthAnswer, childRefusal, monthLast, monthOf}
+use Rattle.engine.specs.Run.{Ran, andThen, monthsBy, startRefusal, runOf, runAnswer, runList}
+use Rattle.engine.specs.Ready.{childMonth, childRun, refusedRun}
+use Rattle.engine.proofs.Calls.{month-passed, birth-passed}
+
+-- the figures bs, and then the run r; and a run that ends with the refusal r, the figures bs and the state b
+abbrev prefixed : List ℕ → Ran → Ran
+prefixed bs r = record { refusal = r .refusal; bloods = bs ++ r .bloods; state = r .state }
+
+abbrev ended : ℕ → List ℕ → State → Ran
+ended r bs b = record { refusal = r; bloods = bs; state = b }
+
+and-stop : (r : ℕ) (m : MonthAnswer) (x : Ran) → (r ≡ 0 → ⊥) → andThen r m x ≡ ended r [] (m .state)
+and-stop zero m x n = absurd (n refl)
+and-stop (suc r) m x n = refl
+
+-- what a run of months answers and leaves in the list l₀
+pub record Done (ran : Ran) (l₀ : List ℕ) (r : RunAnswer) (l : List ℕ) : Type 0 where
+  pub answer : r ≡ runAnswer ran
+  pub list : l ≡ runList ran l₀
+
+module _ (call : State → MonthAnswer) (kept : (a : State) → (call a .refusal ≡ 0 → ⊥) → call a .state ≡ a) (a : State) where
+  -- at month i the state is b and the list l, which was l₀
+  pub record InRun (l₀ l : List ℕ) (b : State) (i : ℕ) : Type 0 where
+    pub reach : i ≤ 84
+    pub long : length l ≡ 84
+    pub same : monthsBy call 84 a ≡ prefixed (take i l) (monthsBy call (84 - i) b)
+    pub rest : drop i l ≡ drop i l₀
+
+  pub run-start : (l : List ℕ) → length l ≡ 84 → InRun l l a 0
+  run-start l h = record { reach = omega arith; long = h; same = refl; rest = refl }
+
+  module _ (l₀ l : List ℕ) (b : State) (i : ℕ) (inv : InRun l₀ l b i) where
+    front-length : length (take i l) ≡ i
+    front-length = length-take-le i l (omega (arith, inv .reach, inv .long))
+
+    done : (r : ℕ) → monthsBy call (84 - i) b ≡ ended r [] b → Done (monthsBy call 84 a) l₀ (record { refusal = r; months = i; state = b }) l
+    done r e =
+        let w : monthsBy call 84 a ≡ ended r (take i l) b =
+        inv .same ∙ ap (prefixed (take i l)) e ∙ ap (λ (bs : List ℕ). ended r bs b) (append-nil (take i l)) in
+        record {
+          answer = rw (w, front-length);
+          list = rw (w, front-length, ← inv .rest) (sym (take-append-drop i l));
+        }
+
+    pub run-end : 84 ≤ i → Done (monthsBy call 84 a) l₀ (record { refusal = 0; months = 84; state = b }) l
+    unfolding monthsBy
+    run-end g =
+        let none : 84 - i ≡ 0 = omega arith in
+        let all : i ≡ 84 = omega (arith, inv .reach) in
+        rw all at (done 0 (rw none))
+
+    module _ (g : i < 84) where
+      left : 84 - i ≡ suc (84 - (i + 1))
+      left = omega arith
+
+      pub run-stop : (r : ℕ) → call b .refusal ≡ r → (r ≡ 0 → ⊥) → Done (monthsBy call 84 a) l₀ (record { refusal = r; months = i; state = b }) l
+      unfolding monthsBy
+      run-stop r e z =
+          let after = monthsBy call (84 - (i + 1)) (call b .state) in
+          done r
+          (rw left
+          (ap (λ (n : ℕ). andThen n (call b) after) e ∙ and-stop r (call b) after z ∙ ap (ended r []) (kept b (λ c. z (sym e ∙ c)))))
+
+      pub run-next : (v : ℕ) → v ≡ call b .blood → (c : State) → c ≡ call b .state → call b .refusal ≡ 0 → InRun l₀ (set l i v) c (i + 1)
+      unfolding monthsBy
+      run-next v ev c ec e =
+          let t : take (i + 1) (set l i v) ≡ take i l ++ (v ∷ []) = rw add-one (take-suc-set l i v (omega (arith, inv .long))) in
+          let next : monthsBy call (84 - i) b ≡ prefixed (v ∷ []) (monthsBy call (84 - (i + 1)) c) = rw (left, e, ← ev, ← ec) in
+          let d : drop (i + 1) l ≡ drop (i + 1) l₀ = sym (drop-drop 1 i l) ∙ ap (drop 1) (inv .rest) ∙ drop-drop 1 i l₀ in
+          record {
+            reach = omega arith;
+            long = length-set l i v ∙ inv .long;
+            same = rw (t, append-assoc) (inv .same ∙ ap (prefixed (take i l)) next);
+            rest = drop-set-lt (i + 1) l i v (omega arith) ∙ d;
+          }
+
+-- a refused month returns the state it was given
+pub child-kept : (s : ℕ) (scenario : Scenario) (table : List ℕ) (a : State) → (childMonth s a scenario table .refusal ≡ 0 → ⊥) → childMonth s a scenario table .state ≡ a
+unfolding childMonth
+child-kept s scenario table a h = by (childRefusal s a scenario table) h
+  where
+    by : (r : ℕ) → (monthAnswer r a (monthLast s a scenario table) (rowOf table (monthAfter a)) .refusal ≡ 0 → ⊥)
+        → monthAnswer r a (monthLast s a scenario table) (rowOf table (monthAfter a)) .state ≡ a
+    by zero h = absurd (h refl)
+    by (suc r) h = refl
+
+-- months by calls that agree
+months-agree : (call other : State → MonthAnswer) → ((a : State) → call a ≡ other a) → (n : ℕ) (a : State) → monthsBy call n a ≡ monthsBy other n a
+unfolding monthsBy
+months-agree call other h zero a = refl
+months-agree call other h (suc n) a =
+    ap (λ (m : MonthAnswer). andThen (m .refusal) m (monthsBy call n (m .state))) (h a)
+    ∙ ap (andThen (other a .refusal) (other a)) (months-agree call other h n (other a .state))
+
+-- the run's ways out, in their order
+module _ (s : ℕ) (f : Files) (l : List ℕ) where
+  refused-done : (r : ℕ) → startRefusal f (length l) ≡ r → (r ≡ 0 → ⊥) → (x : RunAnswer) → x ≡ refusedRun r → Done (runOf s f (length l)) l x l
+  unfolding runOf
+  refused-done zero e h x ex = absurd (h refl)
+  refused-done (suc r) e h x ex = record { answer = rw (e, ex); list = rw e }
+
+  module _ {lengths : ℕ} (el : lengths ≡ lengthRefusal f) where
+    pub run-lengths : (lengths ≡ 0 → ⊥) → (x : RunAnswer) → x ≡ refusedRun lengths → Done (runOf s f (length l)) l x l
+    unfolding startRefusal
+    run-lengths h x ex = refused-done lengths (rw (← el) (orElse-first lengths _ h)) h x ex
+
+    module _ (long : lengths ≡ 0) where
+      pub run-list : (length l ≡ 84 → ⊥) → (x : RunAnswer) → x ≡ refusedRun 2 → Done (runOf s f (length l)) l x l
+      unfolding startRefusal
+      run-list h x ex = refused-done 2 (rw (sym el ∙ long, ne-eqb (length l) 84 h)) (λ z. omega arith) x ex
+
+      module _ (places : length l ≡ 84) where
+        start-birth : startRefusal f (length l) ≡ birthRefusal f
+        unfolding startRefusal
+        start-birth = rw (sym el ∙ long, eq-eqb (length l) 84 places) (orElse-last (birthRefusal f))
+
+        pub run-files : (r : ℕ) → r ≡ filesRefusal f → (r ≡ 0 → ⊥) → (x : RunAnswer) → x ≡ refusedRun r → Done (runOf s f (length l)) l x l
+        unfolding birthRefusal
+        run-files r e h x ex = refused-done r (start-birth ∙ rw (← e) (orElse-first r _ h)) h x ex
+
+        module _ (passed : filesRefusal f ≡ 0) (born : BirthAnswer) (eb : born ≡ birthOf f) where
+          birth-refusal : born .refusal ≡ birthRefusal f
+          unfolding birthOf
+          birth-refusal = ap (λ (b : BirthAnswer). b .refusal) eb ∙ by (birthRefusal f)
+            where
+              by : (r : ℕ) → birthAnswer r (newborn (scenarioIn f) (tableIn f)) .refusal ≡ r
+              by zero = refl
+              by (suc r) = refl
+
+          pub run-birth : (born .refusal ≡ 0 → ⊥) → (x : RunAnswer) → x ≡ refusedRun (born .refusal) → Done (runOf s f (length l)) l x l
+          run-birth h x ex = refused-done (born .refusal) (start-birth ∙ sym birth-refusal) h x ex
+
+          pub run-months : born .refusal ≡ 0 → (after : List ℕ) (x : RunAnswer)
+              → x ≡ runAnswer (childRun s (born .state) (scenarioIn f) (tableIn f)) → after ≡ runList (childRun s (born .state) (scenarioIn f) (tableIn f)) l
+              → Done (runOf s f (length l)) l x after
+          unfolding runOf childRun
+          run-months z after x ex ea =
+              let none : startRefusal f (length l) ≡ 0 = start-birth ∙ sym birth-refusal ∙ z in
+              let same : monthsBy (λ a. childMonth s a (scenarioIn f) (tableIn f)) 84 (born .state) ≡ monthsBy (λ a. monthOf s a f) 84 (birthOf f .state) =
+              ap (monthsBy (λ a. childMonth s a (scenarioIn f) (tableIn f)) 84) (ap (λ (b : BirthAnswer). b .state) eb)
+              ∙ months-agree (λ a. childMonth s a (scenarioIn f) (tableIn f)) (λ a. monthOf s a f) (λ a. month-passed s a f passed) 84 (birthOf f .state) in
+              record { answer = rw none (ex ∙ ap runAnswer same); list = rw none (ea ∙ ap (λ (r : Ran). runList r l) same) }

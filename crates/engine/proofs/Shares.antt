@@ -1,0 +1,53 @@
+-- The shares of a day are as many as its steps and sum to its uptake, and so those of n days.
+-- Assumes nothing.
+use Prim.Native.Nat.{ℕ, zero, suc, _+_, _*_, _/_, _≤_, _<_}
+use mathlib.Core.Path.{_≡_, refl, ap, sym}
+use mathlib.Core.List.{List}
+use native.Mathlib.Nat.{add-zero, mul-zero, zero-mul, suc-mul, zero-div, mul-div-cancel}
+use native.Mathlib.Omega.{arith}
+use lib.ListN.{length, length-append}
+use Rattle.kinetics.specs.Share.{shareOf}
+use Rattle.kinetics.proofs.DayShares.{absorbed-mono, share-law}
+use Rattle.engine.specs.Steps.{sharesFrom, dayShares, daysShares}
+use Rattle.engine.specs.Conservation.{totalOf}
+use Rattle.engine.proofs.Sums.{total-append}
+
+-- what a list of uptakes sums to
+abbrev pub sumOf : List ℕ → ℕ
+sumOf us = totalOf (λ (u : ℕ). u) us
+
+pub shares-length : (s T k n : ℕ) → length (sharesFrom s T k n) ≡ n
+unfolding sharesFrom
+shares-length s T k zero = refl
+shares-length s T k (suc n) = ap suc (shares-length s T (k + 1) n)
+
+pub days-length : (s T n : ℕ) → length (daysShares s T n) ≡ n * s
+unfolding daysShares
+days-length s T zero = sym (zero-mul s)
+days-length s T (suc n) =
+    rw suc-mul (omega (arith, length-append (dayShares s T) (daysShares s T n), shares-length s T 0 s, days-length s T n))
+
+module _ (s T : ℕ) (pos : 0 < s) where
+  pub share-le : (k : ℕ) → k < s → shareOf s T k ≤ T
+  share-le = share-law s T pos .each
+
+  -- what the steps before step k absorb, and then n steps
+  pub shares-total : (k n : ℕ) → sumOf (sharesFrom s T k n) + T * k / s ≡ T * (k + n) / s
+  unfolding sharesFrom shareOf
+  shares-total k zero = rw add-zero (omega arith)
+  shares-total k (suc n) =
+      let e : k + 1 + n ≡ k + suc n = omega arith in
+      let h = rw e at (shares-total (k + 1) n) in
+      omega (arith, absorbed-mono s T pos k)
+
+  pub day-total : sumOf (dayShares s T) ≡ T
+  day-total =
+      let e : 0 + s ≡ s = omega arith in
+      let h = rw (mul-zero, zero-div, e) at (shares-total 0 s) in
+      omega (arith, mul-div-cancel T pos)
+
+  pub days-total : (n : ℕ) → sumOf (daysShares s T n) ≡ n * T
+  unfolding daysShares
+  days-total zero = sym (zero-mul T)
+  days-total (suc n) =
+      rw suc-mul (omega (arith, total-append (λ (u : ℕ). u) (dayShares s T) (daysShares s T n), day-total, days-total n))

@@ -1,0 +1,77 @@
+-- Capped sums, and the state's refusals in their order.
+-- Assumes nothing.
+use mathlib.Core.Path.{_≡_, refl, sym, ap, _∙_}
+use mathlib.Core.Bool.{Bool, true, false, not}
+use mathlib.Core.List.{List, [], _∷_}
+use Prim.Native.Nat.{ℕ, _+_, _*_, _≤_, _<_, min}
+use native.Mathlib.Omega.{arith}
+use lib.ListN.{getD}
+use lib.Dec.{leb, eqb}
+use borrow.Author.Tests.{le-leb, lt-leb, eq-eqb, ne-eqb}
+use Rattle.numbers.specs.Sums.{sumTo}
+use Rattle.numbers.proofs.Sums.{sum-next}
+use Rattle.kinetics.specs.declared.State.{State}
+use Rattle.kinetics.specs.Step.{burden}
+use Rattle.kinetics.specs.Ready.{burdenLimit}
+use Rattle.engine.specs.State.{ledgerSum, lastMonth, monthLimit, isState, stateRefusal}
+use Rattle.engine.proofs.Passed.{sound-is-state}
+
+-- where sums stop
+abbrev pub cap : ℕ
+cap = 0x4000_0000_0000_0000
+
+min-add : (a b x y z : ℕ) → x ≡ min a cap → y ≡ min b cap → z ≡ min (x + y) cap → z ≡ min (a + b) cap
+min-add a b x y z ex ey ez = omega arith
+
+-- one amount more
+pub cap-next : (f : ℕ → ℕ) (i : ℕ) {sum next total : ℕ} → sum ≡ min (sumTo i f) cap → next ≡ min (f i) cap → total ≡ min (sum + next) cap
+    → total ≡ min (sumTo (i + 1) f) cap
+cap-next f i {sum} {next} {total} es en et = min-add (sumTo i f) (f i) sum next total es en et ∙ ap (λ (n : ℕ). min n cap) (sym (sum-next i f))
+
+-- the seven compartments and the three ledgers, summed in order
+pub burden-sum : (lead : List ℕ) → sumTo 7 (λ i. getD lead i 0) ≡ burden lead
+unfolding sumTo
+burden-sum lead = omega arith
+
+pub ledger-sum : (a : State) → sumTo 3 (λ i. getD (a .ledgers) i 0) ≡ ledgerSum a
+unfolding sumTo
+ledger-sum a = omega arith
+
+-- the state's refusals, in their order, by what the code computes
+module _ (a : State) where
+  pub refused-month : lastMonth < a .month → 20 ≡ stateRefusal a
+  unfolding stateRefusal isState
+  refused-month h = rw (lt-leb (a .month) lastMonth h)
+
+  module _ (month : a .month ≤ lastMonth) {held : ℕ} (eh : held ≡ min (burden (a .lead)) cap) where
+    pub refused-burden : burdenLimit < held → 20 ≡ stateRefusal a
+    unfolding stateRefusal isState
+    refused-burden h = rw (le-leb (a .month) lastMonth month, lt-leb (burden (a .lead)) burdenLimit (omega arith))
+
+    module _ (within : held ≤ burdenLimit) {left : ℕ} (el : left ≡ min (ledgerSum a) cap) where
+      burden-within : burden (a .lead) ≤ burdenLimit
+      burden-within = omega arith
+
+      pub refused-ledgers : burdenLimit + a .month * monthLimit < held + left → 20 ≡ stateRefusal a
+      unfolding stateRefusal isState
+      refused-ledgers h =
+          rw (
+            le-leb (a .month) lastMonth month,
+            le-leb (burden (a .lead)) burdenLimit burden-within,
+            lt-leb (burden (a .lead) + ledgerSum a) (burdenLimit + a .month * monthLimit) (omega arith),
+          )
+
+      module _ (all : held + left ≤ burdenLimit + a .month * monthLimit) where
+        account-within : burden (a .lead) + ledgerSum a ≤ burdenLimit + a .month * monthLimit
+        account-within = omega arith
+
+        is-state : isState a ≡ true
+        is-state = sound-is-state (record { month = month; held = burden-within; all = account-within })
+
+        pub refused-last : a .month ≡ lastMonth → 21 ≡ stateRefusal a
+        unfolding stateRefusal
+        refused-last e = rw (is-state, eq-eqb (a .month) lastMonth e)
+
+        pub not-refused : (a .month ≡ lastMonth → ⊥) → 0 ≡ stateRefusal a
+        unfolding stateRefusal
+        not-refused n = rw (is-state, ne-eqb (a .month) lastMonth n)

@@ -1,0 +1,15 @@
+-- Sums and properties over lists that are joined.
+-- Assumes nothing.
+use Prim.Native.Nat.{ℕ, _+_}
+use mathlib.Core.Path.{_≡_}
+use mathlib.Core.List.{List, [], _∷_, _++_}
+use native.Mathlib.Omega.{arith}
+use Rattle.engine.specs.Conservation.{Each, totalOf}
+
+pub total-append : {A : Type 0} (g : A → ℕ) (xs ys : List A) → totalOf g (xs ++ ys) ≡ totalOf g xs + totalOf g ys
+total-append g [] ys = omega arith
+total-append g (x ∷ xs) ys = let h = total-append g xs ys in omega arith
+
+pub each-append : {A : Type 0} (P : A → Type 0) (xs ys : List A) → Each P xs → Each P ys → Each P (xs ++ ys)
+each-append P [] ys p q = q
+each-append P (x ∷ xs) ys p q = (p .0, each-append P xs ys (p .1) q)

@@ -1,0 +1,54 @@
+-- `engine::files::read_files` meets its contract: refused by a length, by the site file, or read as the book says.
+-- Assumes nothing.
+use mathlib.Core.Path.{ap, sym, _∙_}
+use borrow.Author.Needs.{needs}
+use denote.Ref.{now}
+use Rattle.site.specs.declared.SiteRead.{SiteRead}
+use Rattle.site.proofs.Accepted.{read-refusal}
+use Rattle.engine.specs.Ready.{filesOf}
+use Rattle.engine.proofs.Answers.{files-length, files-site, files-book}
+use Rattle.engine.proofs.files.read_files.Statement.{statement}
+use Rattle.engine.proofs.files.read_files.Tie as tie
+
+read-site-requires : tie.Need-read-site-requires
+read-site-requires c κs = search needs
+
+length-refusal-requires : tie.Need-length-refusal-requires
+length-refusal-requires c κs = search needs
+
+returns : tie.Need-returns
+returns c =
+    let lengths = c .before in
+    let a = lengths .before .before .before .before .before .args in
+    files-length (filesOf (now (a .site)) (now (a .book))) _ _ (lengths .length-refusal .ensures) (c .if1 .taken)
+
+returns-2 : tie.Need-returns-2
+returns-2 c =
+    let lengths = c .before .before in
+    let read = lengths .before .before in
+    let a = read .before .before .before .args in
+    files-site (filesOf (now (a .site)) (now (a .book))) _ _ (lengths .length-refusal .ensures) (c .before .if1 .left)
+    (ap (λ (x : SiteRead). x .refusal) (read .read-site .ensures) ∙ read-refusal (now (a .site))) (c .if2 .taken)
+
+read-book-requires : tie.Need-read-book-requires
+read-book-requires c κs = search needs
+
+returns-3 : tie.Need-returns-3
+returns-3 c =
+    let lengths = c .before .before .before .before in
+    let read = lengths .before .before in
+    let a = read .before .before .before .args in
+    files-book (filesOf (now (a .site)) (now (a .book))) _ _ (lengths .length-refusal .ensures) (c .before .before .before .if1 .left)
+    (ap (λ (x : SiteRead). x .refusal) (read .read-site .ensures) ∙ read-refusal (now (a .site))) (c .before .before .if2 .left)
+    (ap (λ (x : SiteRead). x .scenario) (read .read-site .ensures)) (c .read-book .ensures .0) (c .read-book .ensures .1)
+
+pub read-files-spec : {M : Type 1} → statement M
+read-files-spec =
+    tie.close
+    (tie.spec
+    read-site-requires
+    length-refusal-requires
+    returns
+    returns-2
+    read-book-requires
+    returns-3)

@@ -1,0 +1,82 @@
+-- `engine::steps::day` meets its contract: at step k the shares from k on are left.
+-- Assumes nothing.
+use Prim.Native.Nat.{_-_, _≤_}
+use mathlib.Core.Path.{_≡_, refl, sym, _∙_}
+use native.Mathlib.Omega.{arith}
+use borrow.Author.Needs.{needs}
+use Rattle.engine.specs.Ready.{Steppable}
+use Rattle.engine.proofs.Loops.{InDay, day-start, share-le, day-stop, day-ready, day-next, day-end, day-refused}
+use Rattle.engine.proofs.steps.day.Statement.{statement}
+use Rattle.engine.proofs.steps.day.Tie as tie
+
+abbrev Inv-loop : tie.InvT-loop
+Inv-loop rates prepared s t here₀ k₀ here k = InDay rates here₀ s t here k
+
+abbrev μ-loop : tie.MeasureT-loop
+μ-loop rates prepared s t here₀ k₀ here k = s - k
+
+loop-holds : tie.Need-loop-holds Inv-loop μ-loop
+loop-holds c = day-start (c .pre)
+
+share-requires : tie.Need-share-requires Inv-loop μ-loop
+share-requires c κs =
+    let ready = c .before .before .pre in
+    omega (arith, ready .some, ready .few, ready .daily)
+
+burden-of-requires : tie.Need-burden-of-requires Inv-loop μ-loop
+burden-of-requires c κs = c .before .before .loop .inv .held
+
+add-if1 : tie.Need-add-if1 Inv-loop μ-loop
+add-if1 c =
+    let ready = c .before .before .before .before .pre in
+    let l = c .before .before .before .loop in
+    omega (arith, c .burden-of .ensures, l .inv .held, c .before .share .ensures, share-le ready (l .here) (l .k) (l .inv) (c .before .before .loop-test .taken), ready .daily)
+
+returns : tie.Need-returns Inv-loop μ-loop
+returns c =
+    let ready = c .before .before .before .before .before .pre in
+    let l = c .before .before .before .before .loop in
+    day-refused ready _ refl
+    (day-stop ready (l .here) (l .k) (l .inv) (c .before .before .before .loop-test .taken) _ (c .before .before .share .ensures)
+    (omega (arith, c .if1 .taken, c .before .burden-of .ensures)))
+
+step-requires : tie.Need-step-requires Inv-loop μ-loop
+step-requires c κs =
+    let ready = c .before .before .before .before .before .pre in
+    let l = c .before .before .before .before .loop in
+    day-ready ready (l .here) (l .k) (l .inv) (c .before .before .before .loop-test .taken) _ (c .before .before .share .ensures) (omega arith)
+    (omega (arith, c .if1 .left, c .before .burden-of .ensures))
+
+add-k : tie.Need-add-k Inv-loop μ-loop
+add-k c = search needs
+
+loop-less : tie.Need-loop-less Inv-loop μ-loop
+loop-less c = search needs
+
+loop-again : tie.Need-loop-again Inv-loop μ-loop
+loop-again c =
+    let b = c .before .before in
+    let ready = b .before .before .before .before .pre in
+    let l = b .before .before .before .loop in
+    day-next ready (l .here) (l .k) (l .inv) (b .before .before .loop-test .taken) _ (b .before .share .ensures)
+    (omega (arith, c .before .if1 .left, b .burden-of .ensures)) _ (c .step .ensures)
+
+returns-2 : tie.Need-returns-2 Inv-loop μ-loop
+returns-2 c = day-end (c .before .before .pre) (c .before .loop .here) (c .before .loop .k) (c .before .loop .inv) (c .loop-test .left)
+
+pub day-spec : {M : Type 1} → statement M
+day-spec =
+    tie.close
+    (tie.spec
+    Inv-loop
+    μ-loop
+    loop-holds
+    share-requires
+    burden-of-requires
+    add-if1
+    returns
+    step-requires
+    add-k
+    loop-less
+    loop-again
+    returns-2)

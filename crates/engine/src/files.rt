@@ -1,0 +1,52 @@
+// Reading a call's files.
+use super::FilesRead;
+ghost use mathlib.Core.Path.{_≡_};
+ghost use Rattle.engine.specs.Files.{lengthRefusal};
+ghost use Rattle.engine.specs.Ready.{filesOf, FilesDone};
+
+// A wrong length.
+const WRONG_LENGTH: u32 = 1;
+
+const SITE_BYTES: usize = 512;
+
+const BOOK_BYTES: usize = 8_704;
+
+// Refusal 1, or 0: the lengths of the site file and the book.
+pub fn length_refusal(site: &[u8], book: &[u8]) -> u32
+    ensures { λ r. ⌜ r ≡ lengthRefusal (filesOf (now (site .entry)) (now (book .entry))) ⌝ }
+{
+    if site.len() != SITE_BYTES {
+        return WRONG_LENGTH;
+    }
+    if book.len() != BOOK_BYTES {
+        return WRONG_LENGTH;
+    }
+    0
+}
+
+// Reads the site file into a scenario and the book into the table, or answers why they are refused.
+pub fn read_files(site: &[u8], book: &[u8], table: &mut [u32; 1955]) -> FilesRead
+    ensures { λ r. ⌜ FilesDone (filesOf (now (site .entry)) (now (book .entry))) (now (table .exit)) r ⌝ }
+{
+    let read = site::read_site(site);
+    let scenario = read.scenario;
+    let lengths = length_refusal(site, book);
+    if lengths != 0 {
+        return FilesRead {
+            refusal: lengths,
+            scenario,
+        };
+    }
+    let of_site = read.refusal;
+    if of_site != 0 {
+        return FilesRead {
+            refusal: of_site,
+            scenario,
+        };
+    }
+    let of_book = book::read_book(book, table);
+    FilesRead {
+        refusal: of_book,
+        scenario,
+    }
+}

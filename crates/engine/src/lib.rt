@@ -1,0 +1,122 @@
+// The engine: birth, the month call and the run, on site files and rate books of any length and content.
+use kinetics::State;
+use site::Scenario;
+ghost use mathlib.Core.Path.{_≡_};
+ghost use lib.ListN.{length};
+ghost use Rattle.engine.specs.Birth.{birthOf};
+ghost use Rattle.engine.specs.Month.{monthOf};
+ghost use Rattle.engine.specs.Ready.{filesOf, refusedRun};
+ghost use Rattle.engine.specs.Run.{runOf, runAnswer, runList};
+
+mod check; // check.rt: refusals 20 and 21
+mod child; // child.rt: birth and a month of a child of accepted files
+mod months; // months.rt: the months of a run
+mod files; // files.rt: reading a call's files
+mod steps; // steps.rt: the steps of a month
+
+// Blood list not 84 long.
+const BLOOD_LIST: u32 = 2;
+
+const MONTHS: usize = 84;
+
+// What birth answers: 0 and the newborn child, or a refusal and the all-zero state.
+pub struct BirthAnswer {
+    pub refusal: u32,
+    pub state: State,
+}
+
+// What a month answers: 0, the child a month later and its blood figure; or a refusal, the child as it was and 0.
+pub struct MonthAnswer {
+    pub refusal: u32,
+    pub state: State,
+    pub blood: u32, // thousandths of ug/dL
+}
+
+// What a run answers: 0, or the refusal that ended it; the months done, and the last month end.
+pub struct RunAnswer {
+    pub refusal: u32,
+    pub months: u32,
+    pub state: State,
+}
+
+// Where some steps ended: a refusal, or 0 and the state that they left.
+pub struct Reached {
+    pub refusal: u32,
+    pub state: State,
+}
+
+// What reading a call's files came to: a refusal, or 0 and the scenario.
+pub struct FilesRead {
+    pub refusal: u32,
+    pub scenario: Scenario,
+}
+
+// Birth: the child at month 0.
+pub fn birth(site: &[u8], book: &[u8]) -> BirthAnswer
+    ensures { λ r. ⌜ r ≡ birthOf (filesOf (now (site .entry)) (now (book .entry))) ⌝ }
+{
+    let mut table = [0u32; 1955];
+    let read = files::read_files(site, book, &mut table);
+    let refusal = read.refusal;
+    if refusal != 0 {
+        return BirthAnswer {
+            refusal,
+            state: child::zero_state(),
+        };
+    }
+    let scenario = read.scenario;
+    child::born(scenario, &table)
+}
+
+// One month: the child a month later, and its blood figure.
+pub fn month(state: State, site: &[u8], book: &[u8]) -> MonthAnswer
+    ensures { λ r. ⌜ r ≡ monthOf 6 state (filesOf (now (site .entry)) (now (book .entry))) ⌝ }
+{
+    let mut table = [0u32; 1955];
+    let read = files::read_files(site, book, &mut table);
+    let refusal = read.refusal;
+    if refusal != 0 {
+        return child::refused_month(refusal, state);
+    }
+    let scenario = read.scenario;
+    child::child_month(state, scenario, &table)
+}
+
+// A run that was refused before its first month.
+fn refused_run(refusal: u32) -> RunAnswer
+    ensures { λ r. ⌜ r ≡ refusedRun refusal ⌝ }
+{
+    RunAnswer {
+        refusal,
+        months: 0,
+        state: child::zero_state(),
+    }
+}
+
+// The run: birth and 84 months, the blood figure of each month done written into the lent list.
+pub fn run(site: &[u8], book: &[u8], blood: &mut [u32]) -> RunAnswer
+    ensures { λ r. ⌜ r ≡ runAnswer (runOf 6 (filesOf (now (site .entry)) (now (book .entry))) (length (now (blood .entry)))) ⌝ }
+    ensures { λ _. ⌜ now (blood .exit) ≡ runList (runOf 6 (filesOf (now (site .entry)) (now (book .entry))) (length (now (blood .entry)))) (now (blood .entry)) ⌝ }
+{
+    let lengths = files::length_refusal(site, book);
+    if lengths != 0 {
+        return refused_run(lengths);
+    }
+    if blood.len() != MONTHS {
+        return refused_run(BLOOD_LIST);
+    }
+    let mut table = [0u32; 1955];
+    let read = files::read_files(site, book, &mut table);
+    let refusal = read.refusal;
+    if refusal != 0 {
+        return refused_run(refusal);
+    }
+    let scenario = read.scenario;
+    let birth = child::born(scenario, &table);
+    let over = birth.refusal;
+    if over != 0 {
+        return refused_run(over);
+    }
+    let state = birth.state;
+    months::months(state, scenario, &table, blood)
+}

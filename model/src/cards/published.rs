@@ -1,0 +1,83 @@
+//! The published default site: document 003, Table 2-2 (the user's guide), with
+//! document 000, Appendix B (crosswalk, column V.2.0) and its default tables.
+
+use crate::site::{place, AGES, SITE_FIELDS};
+
+/// Outdoor air, pg/m³: 0.10 µg/m³ at every age (003 Table 2-2, 000 air_concentration).
+pub const AIR: [u32; AGES] = [100_000; AGES];
+/// Hours out of doors: 1, 2, 3, then 4 (003 Table 2-2, 000 time_out).
+pub const HOURS_OUT: [u32; AGES] = [1, 2, 3, 4, 4, 4, 4];
+/// Breathing, litres a day: 4.233 × AGE^0.396 m³ (000, E-1a) at the middle of each
+/// year, 0.5 to 6.5. The middle is what makes 000's default table come out: that
+/// table, headed INAIR, prints 0.034 to 0.119 µg/day, which is 32 % of TWA × this.
+pub const BREATHING: [u32; AGES] = [3_217, 4_970, 6_085, 6_952, 7_679, 8_314, 8_883];
+/// Air absorbed, % (003 "Lung absorption", 000 air_absorp).
+pub const AIR_ABSORBED: [u32; AGES] = [32; AGES];
+/// Diet, pg/day: 2.66 to 5.95 µg/day (003 Table 2-2, 000 diet_intake V.2.0).
+pub const DIET: [u32; AGES] = [2_660_000, 5_030_000, 5_210_000, 5_380_000, 5_640_000, 6_040_000, 5_950_000];
+/// Water drunk, mL/day: 0.40 to 0.63 L (003 Table 2-2, 000 water_consumption V.2.0).
+pub const WATER_AMOUNT: [u32; AGES] = [400, 430, 510, 540, 570, 600, 630];
+/// Soil, thousandths of µg/g: 200 µg/g (003 Table 2-2, 000 constant_soil_conc).
+pub const SOIL: [u32; AGES] = [200_000; AGES];
+/// Dust, thousandths of µg/g: 150 µg/g (003 Table 2-2). 000 prints 200 for the
+/// given dust and 150 for the multiple source; the mode below makes it 150 anyway.
+pub const DUST: [u32; AGES] = [150_000; AGES];
+/// Soil and dust eaten, mg/day: 0.086 to 0.055 g (003 Table 2-2, 000 soil_ingested V.2.0).
+pub const EATEN: [u32; AGES] = [86, 94, 67, 63, 67, 52, 55];
+/// Alternate source, pg/day: none (003 Table 2-2, 000 INOTHER).
+pub const ALTERNATE: [u32; AGES] = [0; AGES];
+/// Indoor air, % of outdoor (003 Table 2-2, 000 indoorpercent).
+pub const INDOOR: u32 = 30;
+/// Share of soil in what is eaten, % (003 Table 2-2, 000 weight_soil).
+pub const WEIGHT_SOIL: u32 = 45;
+/// Contribution of soil to dust, hundredths: 0.70 (003 Table 2-2, 000 contrib_percent).
+pub const CONTRIBUTION: u32 = 70;
+/// Air-to-dust factor, µg/g per µg/m³ (003 Table 2-2, 000 multiply_factor).
+pub const AIR_TO_DUST: u32 = 100;
+/// Multiple source: the default of 003, section 2.3.4.3.
+pub const DUST_MODE: u32 = 1;
+/// Constant water: alternate water values are off by default (003, section 2.3.3).
+pub const WATER_MODE: u32 = 0;
+/// Water, pg/mL: 0.9 µg/L (003 Table 2-2). 000's crosswalk still prints 4, but its
+/// default intakes, 0.36 to 0.57 µg/day, are those of 0.9.
+pub const WATER: u32 = 900;
+/// First-draw share, hundredths (003 Table 2-2, 000 FirstDrawFraction).
+pub const FIRST_DRAW_SHARE: u32 = 50;
+/// Fountain share, hundredths (003 Table 2-2, 000 FountainFraction).
+pub const FOUNTAIN_SHARE: u32 = 15;
+/// Absorbed % of diet, water, dust, soil, alternate (003 Table 2-2; 000 ABSF, ABSW, ABSD, ABSS, ABSO).
+pub const ABSORBED: [u32; 5] = [50, 50, 30, 30, 0];
+/// Passive % of each (003 Table 2-2 "0.2"; 000 PAFF, PAFW, PAFD, PAFS, PAFP).
+pub const PASSIVE: [u32; 5] = [20; 5];
+/// Saturation at 24 months, pg/day: 100 µg/day (000 SATINTAKE2).
+pub const SATURATION: u32 = 100_000_000;
+/// Mother's blood lead, thousandths of µg/dL: 0.6 µg/dL (003 Table 2-2, 000 PBBLDMAT V.2.0).
+pub const MOTHER: u32 = 600;
+
+/// The 94 fields of the published default site.
+pub fn fields() -> [u32; SITE_FIELDS] {
+    let mut fields = [0; SITE_FIELDS];
+    let mut put = |from: usize, values: &[u32]| fields[from..from + values.len()].copy_from_slice(values);
+    put(place::AIR, &AIR);
+    put(place::HOURS_OUT, &HOURS_OUT);
+    put(place::BREATHING, &BREATHING);
+    put(place::AIR_ABSORBED, &AIR_ABSORBED);
+    put(place::DIET, &DIET);
+    put(place::WATER_AMOUNT, &WATER_AMOUNT);
+    put(place::SOIL, &SOIL);
+    put(place::DUST, &DUST);
+    put(place::EATEN, &EATEN);
+    put(place::ALTERNATE, &ALTERNATE);
+    put(place::INDOOR, &[INDOOR, WEIGHT_SOIL, CONTRIBUTION, AIR_TO_DUST, DUST_MODE, WATER_MODE]);
+    put(place::CONSTANT_WATER, &[WATER; 4]);
+    put(place::FIRST_DRAW_SHARE, &[FIRST_DRAW_SHARE, FOUNTAIN_SHARE]);
+    put(place::ABSORBED, &ABSORBED);
+    put(place::PASSIVE, &PASSIVE);
+    put(place::SATURATION, &[SATURATION, MOTHER]);
+    fields
+}
+
+/// The published default site file's bytes.
+pub fn site() -> Vec<u8> {
+    super::site_file(&fields())
+}

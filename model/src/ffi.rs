@@ -1,0 +1,104 @@
+//! The engine's C interface in safe Rust. Every place that the engine is to fill is
+//! given to it full of rubbish first, so that what it leaves out shows.
+
+#![allow(unsafe_code)]
+
+use crate::engine::{BirthAnswer, MonthAnswer, RunAnswer};
+use crate::site::SITE_FIELDS;
+use crate::state::State;
+
+/// What 32-bit places hold before a call.
+const RUBBISH: u32 = 0xA5A5_5A5A;
+/// What 64-bit places hold before a call.
+const WIDE_RUBBISH: u64 = 0xA5A5_5A5A_C3C3_3C3C;
+
+extern "C" {
+    fn jurengate_read_site(site: *const u8, site_len: usize, fields: *mut u32) -> u32;
+    fn jurengate_write_block(body: *const u8, body_len: usize, target: *mut u8, target_len: usize) -> u32;
+    fn jurengate_birth(
+        site: *const u8,
+        site_len: usize,
+        book: *const u8,
+        book_len: usize,
+        state: *mut u64,
+    ) -> u32;
+    fn jurengate_month(
+        site: *const u8,
+        site_len: usize,
+        book: *const u8,
+        book_len: usize,
+        state: *mut u64,
+        blood: *mut u32,
+    ) -> u32;
+    fn jurengate_run(
+        site: *const u8,
+        site_len: usize,
+        book: *const u8,
+        book_len: usize,
+        blood: *mut u32,
+        blood_len: usize,
+        state: *mut u64,
+        months: *mut u32,
+    ) -> u32;
+}
+
+/// The engine's site reader: its number and the fields, zeros where refused.
+pub fn read_site(site: &[u8]) -> (u32, [u32; SITE_FIELDS]) {
+    let mut fields = [RUBBISH; SITE_FIELDS];
+    // SAFETY: the pointers span `site` and 94 writable fields.
+    let number = unsafe { jurengate_read_site(site.as_ptr(), site.len(), fields.as_mut_ptr()) };
+    (number, fields)
+}
+
+/// The engine's block writer.
+pub fn write_block(body: &[u8], target: &mut [u8]) -> u32 {
+    // SAFETY: the pointers and lengths are those of the two slices, which do not overlap.
+    unsafe { jurengate_write_block(body.as_ptr(), body.len(), target.as_mut_ptr(), target.len()) }
+}
+
+/// The engine's birth.
+pub fn birth(site: &[u8], book: &[u8]) -> BirthAnswer {
+    let mut state = [WIDE_RUBBISH; 11];
+    // SAFETY: the pointers span the two slices and eleven writable numbers.
+    let number =
+        unsafe { jurengate_birth(site.as_ptr(), site.len(), book.as_ptr(), book.len(), state.as_mut_ptr()) };
+    BirthAnswer { number, state: State::from_numbers(state) }
+}
+
+/// The engine's month.
+pub fn month(site: &[u8], book: &[u8], state: &State) -> MonthAnswer {
+    let mut numbers = state.to_numbers();
+    let mut blood = RUBBISH;
+    // SAFETY: the pointers span the two slices, eleven writable numbers and one figure.
+    let number = unsafe {
+        jurengate_month(
+            site.as_ptr(),
+            site.len(),
+            book.as_ptr(),
+            book.len(),
+            numbers.as_mut_ptr(),
+            &mut blood,
+        )
+    };
+    MonthAnswer { number, state: State::from_numbers(numbers), blood }
+}
+
+/// The engine's run over a lent list.
+pub fn run(site: &[u8], book: &[u8], blood: &mut [u32]) -> RunAnswer {
+    let mut state = [WIDE_RUBBISH; 11];
+    let mut months = RUBBISH;
+    // SAFETY: the pointers span the slices, eleven writable numbers and one count.
+    let number = unsafe {
+        jurengate_run(
+            site.as_ptr(),
+            site.len(),
+            book.as_ptr(),
+            book.len(),
+            blood.as_mut_ptr(),
+            blood.len(),
+            state.as_mut_ptr(),
+            &mut months,
+        )
+    };
+    RunAnswer { number, state: State::from_numbers(state), months }
+}

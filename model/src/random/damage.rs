@@ -1,0 +1,350 @@
+//! Damaged files: each fault just out of bounds, sealed so that it alone is met.
+
+use super::{Dice, D, OUTFLOW_MOST};
+use crate::block::{BLOCK_BYTES, BODY_BYTES, EDITION_AT, FIELDS_AT, FIELD_BYTES, NUMBER_AT};
+use crate::book::{column, RowFields, BLOCK_FIELDS, BLOCK_ROWS, BOOK_BLOCKS, BOOK_ROWS};
+use crate::cards;
+use crate::site::{self, place, AGES, SITE_FIELDS};
+
+/// 10^9 + 1, the least intake that refusal 9 stops, as products that fit the fields.
+const PAST_INTAKE: [(u32, u32); 2] = [(77, 12_987_013), (1_001, 999_001)];
+
+/// What is wrong with a row.
+#[derive(Clone, Copy, Debug, PartialEq, Eq)]
+pub enum RowFault {
+    /// VB below 1,000.
+    BloodLow,
+    /// VB over 60,000.
+    BloodHigh,
+    /// VP nought.
+    PlasmaNone,
+    /// VP not below VB.
+    PlasmaAll,
+    /// W below 2,000.
+    BodyLight,
+    /// W over 50,000.
+    BodyHeavy,
+    /// The kidney-to-cortical weight of this place (0 to 4) over 50,000.
+    Organ(usize),
+    /// a1 nought.
+    NoRedCells,
+    /// a1 to a6 and au together over 64 D.
+    Outflow,
+    /// b of this tissue (0 to 5), with its c, over D.
+    Back(usize),
+    /// c2 over D/2.
+    Faeces,
+    /// c4 over D/2.
+    Skin,
+}
+
+/// Every row fault.
+pub fn row_faults() -> Vec<RowFault> {
+    use RowFault::*;
+    let mut faults = vec![BloodLow, BloodHigh, PlasmaNone, PlasmaAll, BodyLight, BodyHeavy];
+    faults.extend((0..5).map(Organ));
+    faults.extend([NoRedCells, Outflow]);
+    faults.extend((0..6).map(Back));
+    faults.extend([Faeces, Skin]);
+    faults
+}
+
+/// Puts one limit of a good row just out of bounds.
+pub fn break_row(row: &mut RowFields, fault: RowFault) {
+    match fault {
+        RowFault::BloodLow => (row[column::VB], row[column::VP]) = (999, 1),
+        RowFault::BloodHigh => row[column::VB] = 60_001,
+        RowFault::PlasmaNone => row[column::VP] = 0,
+        RowFault::PlasmaAll => row[column::VP] = row[column::VB],
+        RowFault::BodyLight => row[column::BODY] = 1_999,
+        RowFault::BodyHeavy => row[column::BODY] = 50_001,
+        RowFault::Organ(place) => row[column::KIDNEY + place] = 50_001,
+        RowFault::NoRedCells => row[column::OUT] = 0,
+        RowFault::Outflow => {
+            row[column::OUT..column::BACK].fill(0);
+            row[column::OUT] = u32::MAX;
+            row[column::URINE] = (OUTFLOW_MOST + 1 - u64::from(u32::MAX)) as u32;
+        }
+        RowFault::Back(tissue) => {
+            let exit = match tissue {
+                1 => row[column::FAECES],
+                3 => row[column::SKIN],
+                _ => 0,
+            };
+            row[column::BACK + tissue] = D + 1 - exit;
+        }
+        RowFault::Faeces => (row[column::FAECES], row[column::BACK + 1]) = (D / 2 + 1, 0),
+        RowFault::Skin => (row[column::SKIN], row[column::BACK + 3]) = (D / 2 + 1, 0),
+    }
+}
+
+/// An intake that refusal 9 stops.
+#[derive(Clone, Copy, Debug, PartialEq, Eq)]
+pub enum Intake {
+    /// Air, breathed.
+    Air,
+    /// Water of one concentration.
+    ConstantWater,
+    /// Water of three sources.
+    MixedWater,
+    /// Soil.
+    Soil,
+    /// Dust as given.
+    GivenDust,
+    /// Dust from soil and air.
+    MixedDust,
+}
+
+/// Every intake.
+pub const INTAKES: [Intake; 6] = [
+    Intake::Air,
+    Intake::ConstantWater,
+    Intake::MixedWater,
+    Intake::Soil,
+    Intake::GivenDust,
+    Intake::MixedDust,
+];
+
+/// Raises one intake of an age to 10^9 + 1 where the fields allow it, and nothing else over.
+pub fn break_intake(fields: &mut [u32; SITE_FIELDS], intake: Intake, age: usize) {
+    let [few, many] = PAST_INTAKE;
+    match intake {
+        Intake::Air => {
+            fields[place::HOURS_OUT + age] = 24;
+            fields[place::BREATHING + age] = 1_000 * few.0;
+            fields[place::AIR + age] = few.1;
+            fields[place::AIR_TO_DUST] = 0;
+        }
+        Intake::ConstantWater => {
+            fields[place::WATER_MODE] = 0;
+            fields[place::WATER_AMOUNT + age] = many.0;
+            fields[place::CONSTANT_WATER] = many.1;
+        }
+        Intake::MixedWater => {
+            fields[place::WATER_MODE] = 1;
+            fields[place::WATER_AMOUNT + age] = many.0;
+            fields[place::FLUSHED..=place::FOUNTAIN].fill(many.1);
+        }
+        Intake::Soil => {
+            fields[place::WEIGHT_SOIL] = 100;
+            fields[place::EATEN + age] = few.0;
+            fields[place::SOIL + age] = few.1;
+        }
+        Intake::GivenDust => {
+            fields[place::WEIGHT_SOIL] = 0;
+            fields[place::DUST_MODE] = 0;
+            fields[place::EATEN + age] = few.0;
+            fields[place::DUST + age] = few.1;
+        }
+        Intake::MixedDust => {
+            fields[place::WEIGHT_SOIL] = 0;
+            fields[place::DUST_MODE] = 1;
+            fields[place::CONTRIBUTION] = 100;
+            fields[place::AIR_TO_DUST] = 0;
+            fields[place::EATEN + age] = few.0;
+            fields[place::SOIL + age] = few.1;
+        }
+    }
+}
+
+/// One thing wrong with the two files.
+#[derive(Clone, Copy, Debug, PartialEq, Eq)]
+pub enum Fault {
+    /// A site file of this length.
+    SiteLength(usize),
+    /// A book of this length.
+    BookLength(usize),
+    /// A bit of the site's check, or of its body, turned.
+    SiteCheck,
+    /// Another edition of the site block.
+    SiteEdition,
+    /// Another number of the site block.
+    SiteNumber,
+    /// A reserved byte of the site block.
+    SiteReserved,
+    /// A site field one over its limit.
+    SiteField(usize),
+    /// The two shares together 101.
+    Shares,
+    /// Saturation one below its least.
+    SaturationLow,
+    /// The check of a book block.
+    BlockCheck(usize),
+    /// The edition of a book block.
+    BlockEdition(usize),
+    /// The number of a book block.
+    BlockNumber(usize),
+    /// A reserved byte of a book block.
+    BlockReserved(usize),
+    /// A row of the book.
+    Row(usize, RowFault),
+    /// An intake of an age over 10^9.
+    Intake(Intake, usize),
+}
+
+impl Fault {
+    /// The number that a run with this fault alone is refused with.
+    pub fn number(self) -> u32 {
+        match self {
+            Fault::SiteLength(_) | Fault::BookLength(_) => 1,
+            Fault::SiteCheck | Fault::BlockCheck(_) => 3,
+            Fault::SiteEdition | Fault::BlockEdition(_) => 4,
+            Fault::SiteNumber | Fault::BlockNumber(_) => 5,
+            Fault::SiteReserved | Fault::BlockReserved(_) => 6,
+            Fault::SiteField(_) | Fault::Shares | Fault::SaturationLow => 7,
+            Fault::Row(..) => 8,
+            Fault::Intake(..) => 9,
+        }
+    }
+
+    /// Where the fault stands in the order of refusals: file by file, block by block.
+    pub fn order(self) -> (usize, u32) {
+        match self {
+            Fault::SiteLength(_) | Fault::BookLength(_) => (0, 1),
+            Fault::BlockCheck(n)
+            | Fault::BlockEdition(n)
+            | Fault::BlockNumber(n)
+            | Fault::BlockReserved(n) => (2 + n, self.number()),
+            Fault::Row(month, _) => (2 + month / BLOCK_ROWS, 8),
+            Fault::Intake(_, age) => (2 + BOOK_BLOCKS + age, 9),
+            _ => (1, self.number()),
+        }
+    }
+}
+
+/// A fault of any kind.
+pub fn fault(dice: &mut Dice) -> Fault {
+    let block = dice.index(BOOK_BLOCKS);
+    match dice.index(15) {
+        0 => Fault::SiteLength(length_off(dice, BLOCK_BYTES)),
+        1 => Fault::BookLength(length_off(dice, BOOK_BLOCKS * BLOCK_BYTES)),
+        2 => Fault::SiteCheck,
+        3 => Fault::SiteEdition,
+        4 => Fault::SiteNumber,
+        5 => Fault::SiteReserved,
+        6 => Fault::SiteField(dice.index(SITE_FIELDS)),
+        7 => Fault::Shares,
+        8 => Fault::SaturationLow,
+        9 => Fault::BlockCheck(block),
+        10 => Fault::BlockEdition(block),
+        11 => Fault::BlockNumber(block),
+        12 => Fault::BlockReserved(block),
+        13 => {
+            let faults = row_faults();
+            Fault::Row(dice.index(BOOK_ROWS), faults[dice.index(faults.len())])
+        }
+        _ => Fault::Intake(INTAKES[dice.index(INTAKES.len())], dice.index(AGES)),
+    }
+}
+
+/// A length that is not the one due.
+fn length_off(dice: &mut Dice, due: usize) -> usize {
+    match dice.index(6) {
+        0 => 0,
+        1 => due - 1,
+        2 => due + 1,
+        3 => due + BLOCK_BYTES,
+        4 => due - BLOCK_BYTES,
+        _ => dice.index(due),
+    }
+}
+
+/// Two files with faults in them. Faults in fields go in first, then those in the
+/// blocks' frames, each sealed; then broken checks, then lengths, so that a later
+/// fault of the order never hides behind an earlier one that was not asked for.
+pub fn damaged(
+    dice: &mut Dice,
+    fields: &[u32; SITE_FIELDS],
+    rows: &[RowFields],
+    faults: &[Fault],
+) -> (Vec<u8>, Vec<u8>) {
+    let mut fields = *fields;
+    let mut rows = rows.to_vec();
+    let (mut intakes, mut others): (Vec<Fault>, Vec<Fault>) =
+        faults.iter().partition(|fault| matches!(fault, Fault::Intake(..)));
+    others.sort_by_key(|fault| matches!(fault, Fault::SiteField(_)));
+    intakes.append(&mut others);
+    for fault in &intakes {
+        break_fields(&mut fields, &mut rows, *fault);
+    }
+    let (mut site, mut book) = (cards::site_file(&fields), cards::book_file(&rows));
+    for fault in faults {
+        break_frame(dice, &mut site, &mut book, *fault);
+    }
+    for fault in faults {
+        break_check(dice, &mut site, &mut book, *fault);
+    }
+    for fault in faults {
+        break_length(&mut site, &mut book, *fault);
+    }
+    (site, book)
+}
+
+/// Faults in what the fields say.
+fn break_fields(fields: &mut [u32; SITE_FIELDS], rows: &mut [RowFields], fault: Fault) {
+    match fault {
+        Fault::SiteField(index) => fields[index] = site::most(index) + 1,
+        Fault::Shares => (fields[place::FIRST_DRAW_SHARE], fields[place::FOUNTAIN_SHARE]) = (50, 51),
+        Fault::SaturationLow => fields[place::SATURATION] = site::SATURATION_LEAST - 1,
+        Fault::Row(month, fault) => break_row(&mut rows[month], fault),
+        Fault::Intake(intake, age) => break_intake(fields, intake, age),
+        _ => {}
+    }
+}
+
+/// Faults in edition, number and reserved bytes, the block sealed after each.
+fn break_frame(dice: &mut Dice, site: &mut [u8], book: &mut [u8], fault: Fault) {
+    let site_reserved = FIELDS_AT + FIELD_BYTES * SITE_FIELDS;
+    let book_reserved = FIELDS_AT + FIELD_BYTES * BLOCK_FIELDS;
+    match fault {
+        Fault::SiteEdition => break_word(dice, site, EDITION_AT),
+        Fault::SiteNumber => break_word(dice, site, NUMBER_AT),
+        Fault::SiteReserved => break_reserved(dice, site, site_reserved),
+        Fault::BlockEdition(n) => break_word(dice, block_mut(book, n), EDITION_AT),
+        Fault::BlockNumber(n) => break_word(dice, block_mut(book, n), NUMBER_AT),
+        Fault::BlockReserved(n) => break_reserved(dice, block_mut(book, n), book_reserved),
+        _ => {}
+    }
+}
+
+fn block_mut(book: &mut [u8], number: usize) -> &mut [u8] {
+    &mut book[BLOCK_BYTES * number..BLOCK_BYTES * (number + 1)]
+}
+
+/// Changes a 16-bit word and seals the block.
+fn break_word(dice: &mut Dice, block: &mut [u8], at: usize) {
+    let bit = dice.index(16);
+    block[at + bit / 8] ^= 1 << (bit % 8);
+    cards::seal(block);
+}
+
+/// Puts something into a reserved byte, often the first or the last, and seals the block.
+fn break_reserved(dice: &mut Dice, block: &mut [u8], from: usize) {
+    let last = BODY_BYTES - 1;
+    let at = match dice.index(3) {
+        0 => from,
+        1 => last,
+        _ => dice.between(from as u64, last as u64) as usize,
+    };
+    block[at] = dice.between(1, 255) as u8;
+    cards::seal(block);
+}
+
+/// Turns one bit of a block without sealing it: any change of one bit changes the check.
+fn break_check(dice: &mut Dice, site: &mut [u8], book: &mut [u8], fault: Fault) {
+    let block: &mut [u8] = match fault {
+        Fault::SiteCheck => site,
+        Fault::BlockCheck(n) => block_mut(book, n),
+        _ => return,
+    };
+    let bit = dice.index(8 * BLOCK_BYTES);
+    block[bit / 8] ^= 1 << (bit % 8);
+}
+
+fn break_length(site: &mut Vec<u8>, book: &mut Vec<u8>, fault: Fault) {
+    match fault {
+        Fault::SiteLength(length) => site.resize(length, 0),
+        Fault::BookLength(length) => book.resize(length, 0),
+        _ => {}
+    }
+}

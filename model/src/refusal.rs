@@ -1,0 +1,48 @@
+//! The refusal numbers of document 01, "Calls and refusal numbers".
+
+/// Why a call was refused; the discriminant is the paper's number.
+#[derive(Clone, Copy, Debug, PartialEq, Eq)]
+pub enum Refusal {
+    /// A wrong length: site, book, writer's body or target.
+    Length = 1,
+    /// The blood list is not 84 long.
+    BloodList = 2,
+    /// A block's check is wrong.
+    Check = 3,
+    /// A block's edition is not 1.
+    Edition = 4,
+    /// A block's number is not the one due there.
+    Number = 5,
+    /// A reserved byte is not zero.
+    Reserved = 6,
+    /// A site field, or the sum of the two water shares, is outside its limits.
+    SiteLimits = 7,
+    /// A book row is outside its limits.
+    BookLimits = 8,
+    /// An air, water, soil or dust intake of this month's age is over 10^9.
+    Intake = 9,
+    /// What was handed in is no state.
+    NoState = 20,
+    /// The state's month is 84 already.
+    LastMonth = 21,
+    /// Burden plus uptake is over 5×10^10, at birth or at some step.
+    Burden = 22,
+}
+
+/// The number of an accepted call.
+pub const ACCEPTED: u32 = 0;
+
+impl Refusal {
+    /// The paper's number.
+    pub fn number(self) -> u32 {
+        self as u32
+    }
+}
+
+/// 0 for an accepted result, the refusal's number for a refused one.
+pub fn number_of<T>(result: &Result<T, Refusal>) -> u32 {
+    match result {
+        Ok(_) => ACCEPTED,
+        Err(refusal) => refusal.number(),
+    }
+}

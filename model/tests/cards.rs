@@ -1,0 +1,142 @@
+//! The realistic book, the published site and the text figures.
+
+use jurengate_model::book::{column, read_book};
+use jurengate_model::cards::{curves, published};
+use jurengate_model::engine::run;
+use jurengate_model::figures::{site_fields, text_of, KEYS};
+use jurengate_model::printout::printout;
+use jurengate_model::random::{self, Dice};
+use jurengate_model::site::{place, read_site, Site, AGES};
+use jurengate_model::state::MONTHS;
+use jurengate_model::uptake::intakes;
+
+#[test]
+fn the_realistic_book_is_accepted_and_grows() {
+    let rows = curves::rows();
+    assert!(read_book(&curves::book()).is_ok());
+    for pair in rows.windows(2) {
+        for growing in [column::VB, column::VP, column::BODY, column::KIDNEY, column::LIVER, column::OTHER] {
+            assert!(pair[0][growing] <= pair[1][growing]);
+        }
+    }
+}
+
+#[test]
+fn curve_figures_that_can_be_reckoned_by_hand() {
+    let rows = curves::rows();
+    assert_eq!((rows[0][column::VB], rows[0][column::VP], rows[0][column::BODY]), (3_714, 2_027, 3_646));
+    // 12.3 kg is what the agency takes a 24-month-old to weigh; the curve gives 12.339.
+    assert_eq!(rows[24][column::BODY], 12_339);
+    for row in &rows {
+        // 1/6 day over 0.1 day, and over 0.1 × (100 − 0.55/1.28) days.
+        assert_eq!((row[column::OUT], row[column::BACK]), (166_666_667, 1_673_859));
+        let (trabecular, cortical) = (u64::from(row[column::OUT + 4]), u64::from(row[column::OUT + 5]));
+        assert!(cortical.abs_diff(4 * trabecular) <= 4);
+        assert_eq!(row[column::BACK + 4], row[column::BACK + 5]);
+    }
+}
+
+#[test]
+fn breathing_follows_its_equation_at_mid_year() {
+    for (age, litres) in published::BREATHING.iter().enumerate() {
+        let cubic_metres = 4.233 * (age as f64 + 0.5).powf(0.396);
+        assert_eq!(f64::from(*litres), (1000.0 * cubic_metres).round());
+    }
+}
+
+/// The default intakes that document 000 prints, µg/day, held to their last printed digit.
+#[test]
+fn published_intakes_come_out() {
+    let site = Site::of_fields(&read_site(&published::site()).unwrap());
+    let absorbed_air = [0.034, 0.057, 0.076, 0.093, 0.102, 0.111, 0.119];
+    let water = [0.36, 0.39, 0.46, 0.49, 0.51, 0.54, 0.57];
+    let soil = [7.74, 8.46, 6.03, 5.67, 6.03, 4.68, 4.95];
+    let dust = [7.10, 7.76, 5.53, 5.20, 5.53, 4.29, 4.54];
+    for age in 0..AGES {
+        let taken = intakes(&site, age).unwrap();
+        let micrograms = |picograms: u128| picograms as f64 / 1e6;
+        assert!((0.32 * micrograms(taken.air) - absorbed_air[age]).abs() <= 0.0011);
+        assert!((micrograms(taken.eaten[1]) - water[age]).abs() <= 0.0051);
+        assert!((micrograms(taken.eaten[2]) - dust[age]).abs() <= 0.0051);
+        assert!((micrograms(taken.eaten[3]) - soil[age]).abs() <= 0.0051);
+    }
+}
+
+/// A guard against a wrong unit, not a published figure: documents 000 and 003 print no
+/// blood lead for their default site. 003 works its example with a mean of 3 µg/dL.
+#[test]
+fn the_default_child_has_a_common_child_s_blood_lead() {
+    let mut blood = [0; MONTHS];
+    assert_eq!(run(&published::site(), &curves::book(), &mut blood).number, 0);
+    let mean = blood[11..72].iter().sum::<u32>() / 61;
+    assert!((2_000..=2_700).contains(&mean), "mean {mean}");
+}
+
+#[test]
+fn an_empty_text_is_the_published_site() {
+    assert_eq!(site_fields(""), Ok(published::fields()));
+    assert_eq!(site_fields("# nothing\n\n   \n"), Ok(published::fields()));
+}
+
+#[test]
+fn the_keys_cover_the_94_fields_once() {
+    let text = text_of(&[0; 94]);
+    assert_eq!(text.lines().count(), KEYS.len());
+    let mut dice = Dice::new(61);
+    for _ in 0..200 {
+        let temper = random::temper(&mut dice);
+        let fields = random::site_fields(&mut dice, temper);
+        assert_eq!(site_fields(&text_of(&fields)), Ok(fields));
+    }
+}
+
+#[test]
+fn figures_are_read_exactly() {
+    let fields = site_fields("soil = 1 2.5 3.125 0 50000 007 49999.999\nair=0.000001 # clean\nmother = .5");
+    assert!(fields.is_err(), "a figure begins with a digit");
+    let fields =
+        site_fields("soil = 1 2.5 3.125 0 50000 007 49999.999\nair=0.000001 # clean\nmother = 0.500")
+            .unwrap();
+    assert_eq!(fields[place::SOIL..place::SOIL + 7], [1_000, 2_500, 3_125, 0, 50_000_000, 7_000, 49_999_999]);
+    assert_eq!(fields[place::AIR..place::AIR + 7], [1; 7]);
+    assert_eq!(fields[place::MOTHER], 500);
+}
+
+#[test]
+fn mistakes_are_told_with_their_line() {
+    let cases = [
+        ("soil 200", "line 1: `soil 200` is not `key = figures`"),
+        ("\nsol = 200", "line 2: `sol` is not a key"),
+        ("soil = 1 2", "line 1: soil takes one figure, or seven for ages 0 to 6, not 2"),
+        ("mother = 1 2", "line 1: mother takes one figure, not 2"),
+        ("mother =", "line 1: mother takes one figure, not 0"),
+        ("soil = -1", "line 1: soil: `-1` is not a figure such as 200 or 0.9"),
+        ("soil = 1e3", "line 1: soil: `1e3` is not a figure such as 200 or 0.9"),
+        ("soil = 1.2.3", "line 1: soil: `1.2.3` is not a figure such as 200 or 0.9"),
+        ("soil = 1.", "line 1: soil: `1.` is not a figure such as 200 or 0.9"),
+        ("soil = 0.0001", "line 1: soil: `0.0001` has more than 3 decimals"),
+        ("eaten = 1.5", "line 1: eaten: `1.5` must be a whole number"),
+        ("soil = 50000.001", "line 1: soil: 50000.001 is over the limit of 50000 µg/g"),
+        ("saturation = 0.5", "line 1: saturation: 0.5 is below 1 µg/day"),
+        ("soil = 99999999999999999999999", "line 1: soil: `99999999999999999999999` is too long"),
+        ("soil = 9999999999", "line 1: soil: 9999999999 is over the limit of 50000 µg/g"),
+        ("soil = 1\nsoil = 2", "line 2: soil is given twice"),
+        ("first_draw_share = 90", "first_draw_share and fountain_share are 105 % together, over 100 %"),
+    ];
+    for (text, told) in cases {
+        assert_eq!(site_fields(text).unwrap_err().to_string(), told);
+    }
+}
+
+#[test]
+fn the_samples_do_what_they_say() {
+    let last_line = |text: &str| {
+        let site = jurengate_model::cards::site_file(&site_fields(text).unwrap());
+        let printed = String::from_utf8(printout(&site, &curves::book())).unwrap();
+        (printed.lines().last().unwrap().to_string(), printed.contains('W'))
+    };
+    assert_eq!(last_line(include_str!("../samples/default.txt")), ("84 1.7 -".into(), false));
+    assert_eq!(last_line(include_str!("../samples/heavy.txt")), ("84 21.1 -".into(), true));
+    assert_eq!(last_line(include_str!("../samples/refused-intake.txt")).0, "refused 9 after 48");
+    assert_eq!(last_line(include_str!("../samples/refused-burden.txt")).0, "refused 22 after 26");
+}

@@ -1,0 +1,162 @@
+//! Demand 3 on numbers: every step of many months beside the exact solution, and
+//! the balance between every two month ends of lists with refused calls in them.
+
+use jurengate_model::book::{column, Row, D};
+use jurengate_model::cards::{curves, published};
+use jurengate_model::demand3::{audit_month, month_uptake, Ends, ExactRow, MonthFlow};
+use jurengate_model::engine::{birth, month};
+use jurengate_model::kinetics::step;
+use jurengate_model::random::{self, Dice, Temper};
+use jurengate_model::state::{sum, State, BURDEN_LIMIT};
+
+/// What a list of calls came to.
+#[derive(Default)]
+struct Tally {
+    months: usize,
+    refused: usize,
+    steps: usize,
+    pairs: usize,
+}
+
+/// Holds a month's steps to the margin and its flows to its ends.
+fn hold_month(before: &State, after: &State, flow: &MonthFlow, uptake: u128) {
+    assert_eq!((flow.steps, flow.outside), (180, 0));
+    assert_eq!(flow.uptake, uptake);
+    for ledger in 0..3 {
+        let risen = u128::from(after.ledgers[ledger]) - u128::from(before.ledgers[ledger]);
+        assert_eq!(flow.exits[ledger], risen);
+    }
+    assert_eq!(after.month, before.month + 1);
+}
+
+/// A list of month calls from `start`, each with its own files; a refused one leaves the state.
+fn hold_list(dice: &mut Dice, start: State, calls: usize, temper: Temper) -> Tally {
+    let mut tally = Tally::default();
+    let mut ends = Ends::default();
+    let mut state = start;
+    ends.note(state, 0);
+    for _ in 0..calls {
+        let (site, book) = (random::site(dice, temper), random::book(dice, temper));
+        let answer = month(&site, &book, &state);
+        if answer.number != 0 {
+            assert_eq!(answer.state, state);
+            tally.refused += 1;
+            continue;
+        }
+        let uptake = month_uptake(&site, &book, state.month).unwrap();
+        let (end, flow) = audit_month(&site, &book, &state).unwrap();
+        assert_eq!(end, answer.state);
+        hold_month(&state, &end, &flow, uptake);
+        ends.note(end, uptake);
+        (tally.months, tally.steps, state) = (tally.months + 1, tally.steps + flow.steps, end);
+    }
+    tally.pairs = ends.balance().expect("every two ends balance");
+    tally
+}
+
+#[test]
+fn the_default_child_through_all_84_months() {
+    let (site, book) = (published::site(), curves::book());
+    let mut state = birth(&site, &book).state;
+    let mut ends = Ends::default();
+    ends.note(state, 0);
+    for _ in 0..84 {
+        let uptake = month_uptake(&site, &book, state.month).unwrap();
+        let (end, flow) = audit_month(&site, &book, &state).unwrap();
+        hold_month(&state, &end, &flow, uptake);
+        ends.note(end, uptake);
+        state = end;
+    }
+    assert_eq!(ends.balance(), Ok(85 * 84 / 2));
+}
+
+#[test]
+fn random_lists_of_births_and_months() {
+    let mut dice = Dice::new(31);
+    let mut steps = 0;
+    for turn in 0..24 {
+        let temper = [Temper::Mild, Temper::Wide, Temper::Edge][turn % 3];
+        let newborn = birth(&random::site(&mut dice, temper), &random::book(&mut dice, temper));
+        let tally = hold_list(&mut dice, newborn.state, 100, temper);
+        assert!(tally.months + tally.refused == 100);
+        steps += tally.steps;
+    }
+    assert!(steps > 100_000, "{steps} steps");
+}
+
+#[test]
+fn random_states_up_to_the_limit() {
+    let mut dice = Dice::new(32);
+    let mut steps = 0;
+    for turn in 0..400 {
+        let temper = [Temper::Mild, Temper::Wide, Temper::Edge][turn % 3];
+        let state = random::state(&mut dice, false);
+        steps += hold_list(&mut dice, state, 2, temper).steps;
+    }
+    assert!(steps > 40_000, "{steps} steps");
+}
+
+#[test]
+fn single_steps_of_extreme_rows_at_a_full_burden() {
+    let mut dice = Dice::new(33);
+    for _ in 0..20_000 {
+        let temper = random::temper(&mut dice);
+        let row = Row::of_fields(&random::row(&mut dice, temper, 24));
+        let before = random::state(&mut dice, false).compartments;
+        let room = (BURDEN_LIMIT - sum(&before)) as u64;
+        let uptake = dice.edged(room.min(1_000_000_000));
+        let after = step(&row, &before, uptake);
+        let exact = ExactRow::of(&row);
+        assert!(exact.margin_holds(&before, uptake, after.compartments[0]), "{row:?} {before:?} {uptake}");
+        assert_eq!(sum(&before) + u128::from(uptake), sum(&after.compartments) + sum(&after.exits));
+    }
+}
+
+/// The exact solution of one step of the realistic book, for the two tests below.
+fn one_step() -> (ExactRow, [u64; 7], u64, u64) {
+    let row = Row::of_fields(&curves::row(24));
+    let before = [350_000, 34_000_000, 50_000_000, 6_000_000, 300_000_000, 190_000_000, 750_000_000];
+    let uptake = 1_000_000;
+    let after = step(&row, &before, uptake);
+    (ExactRow::of(&row), before, uptake, after.compartments[0])
+}
+
+#[test]
+fn the_margin_stops_a_plasma_below_or_far_above_the_exact_one() {
+    let (exact, before, uptake, plasma) = one_step();
+    assert!(exact.margin_holds(&before, uptake, plasma));
+    assert!(!exact.margin_holds(&before, uptake, plasma - 500));
+    assert!(!exact.margin_holds(&before, uptake, plasma + 500));
+}
+
+#[test]
+fn the_exact_solution_agrees_with_floating_point() {
+    let row = curves::row(24);
+    let (_, before, uptake, plasma) = one_step();
+    let d = D as f64;
+    let rate = |index: usize| f64::from(row[index]) / d;
+    let mut supply = before[0] as f64 + uptake as f64;
+    let mut divisor = 1.0 + rate(column::URINE);
+    let exits = [0.0, rate(column::FAECES), 0.0, rate(column::SKIN), 0.0, 0.0];
+    for i in 0..6 {
+        let e = 1.0 + rate(column::BACK + i) + exits[i];
+        supply += rate(column::BACK + i) * before[i + 1] as f64 / e;
+        divisor += rate(column::OUT + i) * (1.0 - rate(column::BACK + i) / e);
+    }
+    assert!((plasma as f64 - supply / divisor).abs() < 100.0);
+}
+
+#[test]
+fn a_balance_that_does_not_hold_is_found() {
+    let mut ends = Ends::default();
+    let state = |plasma: u64, urine: u64| State {
+        compartments: [plasma, 0, 0, 0, 0, 0, 0],
+        ledgers: [urine, 0, 0],
+        ..State::default()
+    };
+    ends.note(state(10, 0), 0);
+    ends.note(state(12, 3), 5);
+    assert_eq!(ends.balance(), Ok(1));
+    ends.note(state(14, 4), 4);
+    assert_eq!(ends.balance(), Err((0, 2)));
+}

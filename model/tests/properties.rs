@@ -1,0 +1,132 @@
+//! Properties that the paper states or implies, over random cards.
+
+use jurengate_model::cards::{self, curves, published};
+use jurengate_model::engine::{birth, month, read_files, run};
+use jurengate_model::kinetics::step_uptake;
+use jurengate_model::printout::printout;
+use jurengate_model::random::{self, Dice, Temper};
+use jurengate_model::site::{place, AGES};
+use jurengate_model::state::{State, MONTHS};
+use jurengate_model::uptake::{day_uptake, intakes};
+
+#[test]
+fn the_run_is_birth_and_months() {
+    let mut dice = Dice::new(51);
+    for _ in 0..120 {
+        let temper = random::temper(&mut dice);
+        let (site, book) = (random::site(&mut dice, temper), random::book(&mut dice, temper));
+        let mut blood = [u32::MAX; MONTHS];
+        let whole = run(&site, &book, &mut blood);
+        let newborn = birth(&site, &book);
+        let (mut number, mut state, mut months) = (newborn.number, newborn.state, 0);
+        while number == 0 && months < MONTHS {
+            let answer = month(&site, &book, &state);
+            (number, state) = (answer.number, answer.state);
+            if number == 0 {
+                assert_eq!(blood[months], answer.blood);
+                months += 1;
+            }
+        }
+        assert_eq!((whole.number, whole.state, whole.months as usize), (number, state, months));
+        assert!(blood[months..].iter().all(|&figure| figure == u32::MAX));
+    }
+}
+
+#[test]
+fn month_ends_are_states() {
+    let mut dice = Dice::new(52);
+    for _ in 0..3_000 {
+        let temper = random::temper(&mut dice);
+        let (site, book) = (random::site(&mut dice, temper), random::book(&mut dice, temper));
+        let answer = month(&site, &book, &random::state(&mut dice, false));
+        assert!(answer.number == 0 || answer.number == 9 || answer.number == 22);
+        assert!(answer.state.is_state());
+    }
+}
+
+#[test]
+fn random_states_are_what_they_are_called() {
+    let mut dice = Dice::new(53);
+    for _ in 0..20_000 {
+        assert!(random::state(&mut dice, false).is_state());
+        assert_eq!(random::state(&mut dice, true).month, 84);
+        assert!(!random::no_state(&mut dice).is_state());
+    }
+}
+
+#[test]
+fn tempers_reach_what_they_are_for() {
+    let mut dice = Dice::new(54);
+    let mut numbers = [0; 23];
+    let mut whole = 0;
+    for turn in 0..300 {
+        let temper = [Temper::Mild, Temper::Wide, Temper::Edge][turn % 3];
+        let (site, book) = (random::site(&mut dice, temper), random::book(&mut dice, temper));
+        let answer = run(&site, &book, &mut [0; MONTHS]);
+        numbers[answer.number as usize] += 1;
+        whole += usize::from(answer.months == 84);
+    }
+    assert_eq!(numbers.iter().sum::<usize>(), numbers[0] + numbers[9] + numbers[22]);
+    assert!(whole > 100 && numbers[9] > 20 && numbers[22] > 20, "{numbers:?}, {whole} whole");
+}
+
+#[test]
+fn the_six_shares_add_up() {
+    let mut dice = Dice::new(55);
+    for _ in 0..20_000 {
+        let day = u128::from(dice.edged(6_000_000_000));
+        assert_eq!((0..6).map(|k| u128::from(step_uptake(day, k))).sum::<u128>(), day);
+    }
+}
+
+#[test]
+fn a_day_takes_up_no_more_than_it_takes_in() {
+    let mut dice = Dice::new(56);
+    for _ in 0..500 {
+        let temper = random::temper(&mut dice);
+        let files = read_files(&random::site(&mut dice, temper), &random::book(&mut dice, temper));
+        let (site, book) = files.unwrap();
+        for month in [1, 12, 13, 24, 25, 84] {
+            let Ok(uptake) = day_uptake(&site, &book, month) else { continue };
+            let taken = intakes(&site, (month - 1) / 12).unwrap();
+            assert!(uptake <= taken.air + taken.eaten.iter().sum::<u128>());
+            assert!(uptake <= 6_000_000_000);
+        }
+    }
+}
+
+#[test]
+fn unused_modes_change_nothing() {
+    let book = curves::book();
+    let mut fields = published::fields();
+    let before = printout(&cards::site_file(&fields), &book);
+    fields[place::DUST..place::DUST + AGES].fill(50_000_000);
+    fields[place::FLUSHED..=place::FOUNTAIN].fill(10_000_000);
+    fields[place::FIRST_DRAW_SHARE] = 0;
+    assert_eq!(printout(&cards::site_file(&fields), &book), before);
+}
+
+#[test]
+fn another_yard_another_curve() {
+    let book = curves::book();
+    let mut last = printout(&published::site(), &book);
+    for soil in [250_000, 400_000, 1_000_000] {
+        let mut fields = published::fields();
+        fields[place::SOIL..place::SOIL + AGES].fill(soil);
+        let next = printout(&cards::site_file(&fields), &book);
+        assert_ne!(next, last);
+        last = next;
+    }
+}
+
+#[test]
+fn a_child_without_lead_stays_without() {
+    let mut fields = published::fields();
+    fields[place::ABSORBED..place::PASSIVE].fill(0);
+    fields[place::AIR_ABSORBED..place::AIR_ABSORBED + AGES].fill(0);
+    fields[place::MOTHER] = 0;
+    let mut blood = [1; MONTHS];
+    let answer = run(&cards::site_file(&fields), &curves::book(), &mut blood);
+    assert_eq!(answer.state, State { month: 84, ..State::default() });
+    assert_eq!(blood, [0; MONTHS]);
+}
