@@ -1,0 +1,106 @@
+// The C interface for firmware: include/jurengate.h declares these calls.
+use kinetics::State;
+ghost use mathlib.Core.Path.{_≡_};
+ghost use lib.ListN.{length};
+ghost use Rattle.block.specs.Writer.{writerRefusal, written};
+ghost use Rattle.site.specs.Site.{readSite};
+ghost use Rattle.engine.specs.Birth.{birthOf};
+ghost use Rattle.engine.specs.Month.{monthOf};
+ghost use Rattle.engine.specs.Run.{runOf, runAnswer, runList};
+ghost use Rattle.engine.specs.Ready.{filesOf};
+ghost use Rattle.jurengate.specs.Words.{wordsOf, stateOf};
+
+fn words_of(state: State) -> [u64; 11]
+    ensures { λ r. ⌜ r ≡ wordsOf state ⌝ }
+{
+    let lead = state.lead;
+    let ledgers = state.ledgers;
+    [
+        state.month,
+        lead[0],
+        lead[1],
+        lead[2],
+        lead[3],
+        lead[4],
+        lead[5],
+        lead[6],
+        ledgers[0],
+        ledgers[1],
+        ledgers[2],
+    ]
+}
+
+fn state_of(words: [u64; 11]) -> State
+    ensures { λ r. ⌜ r ≡ stateOf words ⌝ }
+{
+    State {
+        month: words[0],
+        lead: [words[1], words[2], words[3], words[4], words[5], words[6], words[7]],
+        ledgers: [words[8], words[9], words[10]],
+    }
+}
+
+// Reads a site file: its refusal, and its fields, zeros where it is refused.
+#[no_mangle]
+pub extern "C" fn jurengate_read_site(site: &[u8], fields: &mut [u32; 94]) -> u32
+    ensures { λ r. ⌜ r ≡ readSite (now (site .entry)) .refusal ⌝ }
+    ensures { λ _. ⌜ now (fields .exit) ≡ readSite (now (site .entry)) .scenario .fields ⌝ }
+{
+    let read = site::read_site(site);
+    let scenario = read.scenario;
+    let read_fields = scenario.fields;
+    *fields = read_fields;
+    read.refusal
+}
+
+// Writes a body of 508 bytes with its check into a target of 512.
+#[no_mangle]
+pub extern "C" fn jurengate_write_block(body: &[u8], target: &mut [u8]) -> u32
+    ensures { λ r. ⌜ r ≡ writerRefusal (now (body .entry)) (now (target .entry)) ⌝ }
+    ensures { λ _. ⌜ now (target .exit) ≡ written (now (body .entry)) (now (target .entry)) ⌝ }
+{
+    block::write::write_block(body, target)
+}
+
+// Birth: the child at month 0, all zeros where it is refused.
+#[no_mangle]
+pub extern "C" fn jurengate_birth(site: &[u8], book: &[u8], state: &mut [u64; 11]) -> u32
+    ensures { λ r. ⌜ r ≡ birthOf (filesOf (now (site .entry)) (now (book .entry))) .refusal ⌝ }
+    ensures { λ _. ⌜ now (state .exit) ≡ wordsOf (birthOf (filesOf (now (site .entry)) (now (book .entry))) .state) ⌝ }
+{
+    let answer = engine::birth(site, book);
+    let child = answer.state;
+    *state = words_of(child);
+    answer.refusal
+}
+
+// One month: the child a month later and its blood figure; where it is refused, the child as it was and 0.
+#[no_mangle]
+pub extern "C" fn jurengate_month(site: &[u8], book: &[u8], state: &mut [u64; 11], blood: &mut u32) -> u32
+    ensures { λ r. ⌜ r ≡ monthOf 6 (stateOf (now (state .entry))) (filesOf (now (site .entry)) (now (book .entry))) .refusal ⌝ }
+    ensures { λ _. ⌜ now (state .exit) ≡ wordsOf (monthOf 6 (stateOf (now (state .entry))) (filesOf (now (site .entry)) (now (book .entry))) .state) ⌝ }
+    ensures { λ _. ⌜ now (blood .exit) ≡ monthOf 6 (stateOf (now (state .entry))) (filesOf (now (site .entry)) (now (book .entry))) .blood ⌝ }
+{
+    let words = *state;
+    let child = state_of(words);
+    let answer = engine::month(child, site, book);
+    let next = answer.state;
+    *state = words_of(next);
+    *blood = answer.blood;
+    answer.refusal
+}
+
+// The run: birth and 84 months, the figure of each month done written into the list.
+#[no_mangle]
+pub extern "C" fn jurengate_run(site: &[u8], book: &[u8], blood: &mut [u32], state: &mut [u64; 11], months: &mut u32) -> u32
+    ensures { λ r. ⌜ r ≡ runOf 6 (filesOf (now (site .entry)) (now (book .entry))) (length (now (blood .entry))) .refusal ⌝ }
+    ensures { λ _. ⌜ now (blood .exit) ≡ runList (runOf 6 (filesOf (now (site .entry)) (now (book .entry))) (length (now (blood .entry)))) (now (blood .entry)) ⌝ }
+    ensures { λ _. ⌜ now (state .exit) ≡ wordsOf (runOf 6 (filesOf (now (site .entry)) (now (book .entry))) (length (now (blood .entry))) .state) ⌝ }
+    ensures { λ _. ⌜ now (months .exit) ≡ runAnswer (runOf 6 (filesOf (now (site .entry)) (now (book .entry))) (length (now (blood .entry)))) .months ⌝ }
+{
+    let answer = engine::run(site, book, blood);
+    let last = answer.state;
+    *state = words_of(last);
+    *months = answer.months;
+    answer.refusal
+}
