@@ -135,8 +135,8 @@ fn the_samples_do_what_they_say() {
         let printed = String::from_utf8(printout(&site, &curves::book())).unwrap();
         (printed.lines().last().unwrap().to_string(), printed.contains('W'))
     };
-    assert_eq!(last_line(include_str!("../samples/default.txt")), ("84 1.7 -".into(), false));
-    assert_eq!(last_line(include_str!("../samples/heavy.txt")), ("84 21.1 -".into(), true));
-    assert_eq!(last_line(include_str!("../samples/refused-intake.txt")).0, "refused 9 after 48");
-    assert_eq!(last_line(include_str!("../samples/refused-burden.txt")).0, "refused 22 after 26");
+    assert_eq!(last_line(include_str!("../../samples/default/figures.txt")), ("84 1.7 -".into(), false));
+    assert_eq!(last_line(include_str!("../../samples/heavy/figures.txt")), ("84 21.1 -".into(), true));
+    assert_eq!(last_line(include_str!("../../samples/refused-intake/figures.txt")).0, "refused 9 after 48");
+    assert_eq!(last_line(include_str!("../../samples/refused-burden/figures.txt")).0, "refused 22 after 26");
 }

@@ -11,7 +11,7 @@ use lib.ListN.{length, getD, replicate, length-append, length-replicate}
 use lib.Seq.{ext-getD, getD-append-add}
 use Rattle.numbers.specs.Choice.{tab}
 use Rattle.numbers.proofs.Every.{every-of, length-tab, getD-tab}
-use Rattle.block.specs.Block.{byteAt, Bytes, wordAt, fieldAt, numberAt, editionAt, checkAt, zerosFrom, blockRefusal, fieldsOf}
+use Rattle.block.specs.Block.{byteAt, Bytes, wordAt, fieldAt, numberAt, editionAt, checkAt, zerosFrom, fieldsOf}
 use Rattle.block.specs.Writer.{le16, le32, layout, bodyOf, BodyPasses}
 use Rattle.block.proofs.Laws.{isZero}
 use Rattle.block.proofs.Writer.{length-le32}

@@ -1,17 +1,14 @@
 -- A sealed body read back: its words and fields are the body's, its check is right, so it is refused only for what the body is.
 -- Assumes nothing.
 use mathlib.Core.Path.{_≡_, refl, sym, ap, ap₂, _∙_}
-use mathlib.Core.Bool.{Bool, true}
-use mathlib.Core.List.{List, [], _∷_, _++_, append-nil}
-use Prim.Native.Nat.{ℕ, zero, suc, _+_, _-_, _*_, _/_, _%_, _≤_, _<_}
+use mathlib.Core.List.{List, [], _++_, append-nil}
+use Prim.Native.Nat.{ℕ, _+_, _-_, _*_, _/_, _%_, _≤_, _<_}
 use native.Mathlib.Nat.{add-assoc, mod-eq-of-lt, div-div-eq-div-mul}
 use native.Mathlib.Omega.{arith}
 use borrow.Author.Tests.{eqb-true}
 use lib.ListN.{length, length-append, List·getD-append}
 use lib.Dec.{eqb}
 use lib.Seq.{getD-append-add}
-use Rattle.numbers.specs.Choice.{unless}
-use Rattle.numbers.specs.Sums.{sumTo}
 use Rattle.numbers.proofs.Refusals.{orElse-none, unless-none}
 use Rattle.numbers.proofs.Sums.{sum-le, sum-eq, sum-same}
 use Rattle.numbers.proofs.Every.{every-same, tab-same}

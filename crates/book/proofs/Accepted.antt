@@ -3,13 +3,13 @@
 use mathlib.Core.Path.{_≡_, refl, sym, ap, ap₂, _∙_}
 use mathlib.Core.Bool.{Bool, true, _&&_}
 use mathlib.Core.List.{List, [], _∷_}
-use Prim.Native.Nat.{ℕ, zero, suc, _+_, _-_, _*_, _/_, _%_, _≤_, _<_}
+use Prim.Native.Nat.{ℕ, zero, suc, _+_, _*_, _/_, _%_, _≤_, _<_}
 use native.Mathlib.Decide.{decLt}
 use native.Mathlib.Omega.{arith}
 use lib.ListN.{length, getD}
 use lib.Dec.{eqb, leb}
 use borrow.Author.Tests.{leb-true, ltb-true, eqb-true, eq-eqb}
-use Rattle.numbers.specs.Choice.{unless, every, tab}
+use Rattle.numbers.specs.Choice.{unless}
 use Rattle.numbers.specs.Sums.{sumTo}
 use Rattle.numbers.proofs.Every.{and-left, and-right, every-at, getD-tab, tab-same}
 use Rattle.numbers.proofs.Refusals.{orElse-none, firstOf-none, unless-none}

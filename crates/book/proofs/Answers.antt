@@ -1,13 +1,13 @@
 -- The book reader's ways out, in their order.
 -- Assumes nothing.
-use mathlib.Core.Path.{_≡_, refl, sym, ap, _∙_}
+use mathlib.Core.Path.{_≡_, refl, sym, _∙_}
 use mathlib.Core.List.{List}
 use Prim.Native.Nat.{ℕ, zero, suc}
 use native.Mathlib.Omega.{arith}
 use lib.ListN.{length, replicate}
 use borrow.Author.Tests.{eq-eqb, ne-eqb}
-use Rattle.numbers.proofs.Refusals.{orElse-first, orElse-last}
-use Rattle.book.specs.Book.{blocksRefusal, bookRefusal, numbersOf, blankTable, tableBeside, bookTable, BookDecoded}
+use Rattle.numbers.proofs.Refusals.{orElse-last}
+use Rattle.book.specs.Book.{bookRefusal, blankTable, bookTable, BookDecoded}
 
 module _ (book : List ℕ) where
   blank-beside : (r : ℕ) → bookRefusal book ≡ r → (r ≡ 0 → ⊥) → blankTable ≡ bookTable book

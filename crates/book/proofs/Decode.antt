@@ -1,14 +1,14 @@
 -- Decoding a book block by block: what a block leaves in the table, and the loop over the blocks.
 -- Assumes nothing.
 use mathlib.Core.Path.{_≡_, refl, sym, ap, ap₂, _∙_}
-use mathlib.Core.Bool.{Bool, true, false}
+use mathlib.Core.Bool.{Bool}
 use mathlib.Core.List.{List, _++_, append-assoc}
-use Prim.Native.Nat.{ℕ, zero, suc, _+_, _-_, _*_, _/_, _%_, _≤_, _<_}
+use Prim.Native.Nat.{ℕ, suc, _+_, _-_, _*_, _/_, _%_, _≤_, _<_}
 use native.Mathlib.Numerals.{add-one}
 use native.Mathlib.Omega.{arith}
-use lib.ListN.{length, getD, take, drop, length-append, length-take, length-drop, List·getD-append}
+use lib.ListN.{length, getD, take, drop, length-append, length-drop, List·getD-append}
 use lib.Seq.{getD-append-add, take-at, length-take-le, take-all}
-use Rattle.numbers.specs.Choice.{unless, orElse, every, tab}
+use Rattle.numbers.specs.Choice.{unless, orElse, tab}
 use Rattle.numbers.proofs.Every.{every-shift, tab-same, tab-append, length-tab}
 use Rattle.numbers.proofs.Refusals.{orElse-first, orElse-last}
 use Rattle.block.specs.Block.{fieldAt, blockRefusal, fieldsOf, blockAt}

@@ -1,9 +1,8 @@
 -- A written block of a book is read back as its body's numbers, and as the numbers that were laid out.
 -- Assumes nothing.
 use mathlib.Core.Path.{_≡_, sym, ap, _∙_}
-use mathlib.Core.Bool.{true}
 use mathlib.Core.List.{List}
-use Prim.Native.Nat.{ℕ, _+_, _*_, _≤_, _<_}
+use Prim.Native.Nat.{ℕ, _+_, _*_, _≤_}
 use native.Mathlib.Omega.{arith}
 use lib.ListN.{length, getD}
 use Rattle.block.specs.Block.{blockRefusal, fieldsOf, blockAt}
@@ -12,7 +11,7 @@ use Rattle.block.proofs.Laid.{body-passes, fields-body}
 use Rattle.block.proofs.Sealed.{fields-sealed, sealed-passes, written-sealed}
 use Rattle.book.specs.Row.{rowsFit}
 use Rattle.book.specs.Book.{blockNumbers, bookBlockRefusal}
-use Rattle.book.specs.Laws.{BodyReadBack, NumbersReadBack, BlockReads}
+use Rattle.book.specs.Laws.{BodyReadBack, NumbersReadBack}
 use Rattle.book.proofs.Accepted.{number-read}
 
 pub body-read-back : BodyReadBack

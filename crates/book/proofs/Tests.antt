@@ -8,7 +8,6 @@ use native.Mathlib.Decide.{decLt}
 use native.Mathlib.Omega.{arith}
 use lib.Dec.{leb}
 use lib.ListN.{getD, List·getD-eq-default}
-use Rattle.numbers.specs.Choice.{tab}
 use Rattle.numbers.proofs.Every.{length-tab, getD-tab}
 use Rattle.book.specs.declared.Rates.{Rates}
 use Rattle.book.specs.Row.{unit, out, back, exit, rowNumbers, rowOf, Rates32}

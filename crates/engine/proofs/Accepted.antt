@@ -1,16 +1,12 @@
 -- What reading accepted files gives: a scenario and a table within their limits.
 -- Assumes nothing.
 use mathlib.Core.Path.{_≡_, sym, ap, _∙_}
-use mathlib.Core.List.{List, [], _∷_}
+use mathlib.Core.List.{List}
 use Prim.Native.Nat.{ℕ, zero, suc}
-use lib.ListN.{length, getD, length-replicate}
+use lib.ListN.{length, length-replicate}
 use Rattle.numbers.proofs.Every.{length-tab}
-use Rattle.numbers.proofs.Refusals.{firstOf-none}
-use Rattle.site.specs.Site.{siteRefusal}
-use Rattle.site.proofs.Accepted.{exposure-accepted, mother-accepted}
 use Rattle.book.specs.Book.{bookRefusal, numbersOf, blankTable, tableBeside, bookTable}
-use Rattle.book.proofs.Accepted.{rows-within}
-use Rattle.engine.specs.Files.{Files, lengthRefusal, filesRefusal, scenarioIn, tableIn}
+use Rattle.engine.specs.Files.{Files}
 use Rattle.engine.specs.declared.FilesRead.{FilesRead}
 use Rattle.engine.specs.Ready.{Decoded, FilesDone}
 use Rattle.engine.proofs.Passed.{decoded}

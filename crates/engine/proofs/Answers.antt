@@ -1,22 +1,19 @@
 -- The calls' ways out, in their order.
 -- Assumes nothing.
-use mathlib.Core.Path.{_≡_, refl, sym, ap, ap₂, _∙_}
-use mathlib.Core.Bool.{Bool, true, false}
-use mathlib.Core.List.{List, [], _∷_}
-use Prim.Native.Nat.{ℕ, zero, suc, _+_, _≤_, _<_, min}
+use mathlib.Core.Path.{_≡_, sym, _∙_}
+use mathlib.Core.List.{List}
+use Prim.Native.Nat.{ℕ, zero, _≤_, _<_, min}
 use native.Mathlib.Omega.{arith}
 use borrow.Author.Tests.{le-leb, lt-leb}
-use Rattle.numbers.specs.Choice.{unless, orElse}
 use Rattle.numbers.proofs.Refusals.{orElse-first, orElse-last}
 use Rattle.site.specs.declared.Scenario.{Scenario}
-use Rattle.site.specs.Site.{siteRefusal, readSite}
+use Rattle.site.specs.Site.{siteRefusal}
 use Rattle.book.specs.Book.{bookRefusal, bookTable}
 use Rattle.kinetics.specs.declared.State.{State}
 use Rattle.kinetics.specs.Step.{burden}
 use Rattle.kinetics.specs.Ready.{burdenLimit}
 use Rattle.engine.specs.declared.BirthAnswer.{BirthAnswer}
-use Rattle.engine.specs.declared.FilesRead.{FilesRead}
-use Rattle.engine.specs.Files.{Files, lengthRefusal, filesRefusal, scenarioIn, tableIn}
+use Rattle.engine.specs.Files.{Files, lengthRefusal, filesRefusal, scenarioIn}
 use Rattle.engine.specs.State.{zeroState}
 use Rattle.engine.specs.Birth.{newborn, newbornRefusal, birthAnswer}
 use Rattle.engine.specs.Ready.{FilesDone}

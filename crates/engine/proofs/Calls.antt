@@ -1,14 +1,12 @@
 -- The month's ways out, from the innermost part to the call, and birth's.
 -- Assumes nothing.
-use mathlib.Core.Path.{_≡_, refl, sym, ap, ap₂, _∙_}
+use mathlib.Core.Path.{_≡_, refl, sym, ap, _∙_}
 use mathlib.Core.List.{List}
-use Prim.Native.Nat.{ℕ, zero, suc, _+_, _*_, _≤_, _<_}
-use native.Mathlib.Nat.{mul-le-mul-right}
+use Prim.Native.Nat.{ℕ, zero, suc, _*_, _≤_}
 use native.Mathlib.Omega.{arith}
 use Rattle.numbers.specs.Choice.{orElse}
 use Rattle.numbers.proofs.Refusals.{orElse-first, orElse-last}
 use Rattle.site.specs.declared.Scenario.{Scenario}
-use Rattle.book.specs.declared.Rates.{Rates}
 use Rattle.book.specs.declared.Row.{Row}
 use Rattle.book.specs.Row.{RowLimits, rowOf}
 use Rattle.uptake.specs.Intake.{intakeRefusal}
@@ -16,11 +14,10 @@ use Rattle.kinetics.specs.declared.State.{State}
 use Rattle.kinetics.specs.declared.Prepared.{Prepared}
 use Rattle.kinetics.specs.Ready.{Prepares}
 use Rattle.engine.specs.declared.BirthAnswer.{BirthAnswer}
-use Rattle.engine.specs.declared.MonthAnswer.{MonthAnswer}
 use Rattle.engine.specs.declared.Reached.{Reached}
 use Rattle.engine.specs.Files.{Files, filesRefusal, scenarioIn, tableIn}
 use Rattle.engine.specs.State.{zeroState, stateRefusal}
-use Rattle.engine.specs.Steps.{daysShares, lastFrom, stepsRefusal}
+use Rattle.engine.specs.Steps.{daysShares, stepsRefusal}
 use Rattle.engine.specs.Birth.{newborn, newbornRefusal, birthRefusal, birthAnswer, birthOf}
 use Rattle.engine.specs.Month.{monthAfter, exposureIn, monthUptake, monthRates, monthShares, refusedMonth, acceptedMonth, monthAnswer, childRefusal, monthLast, monthRefusal, monthOf}
 use Rattle.site.specs.declared.Exposure.{Exposure}

@@ -16,12 +16,11 @@ use Rattle.engine.specs.declared.BirthAnswer.{BirthAnswer}
 use Rattle.engine.specs.declared.MonthAnswer.{MonthAnswer}
 use Rattle.engine.specs.declared.RunAnswer.{RunAnswer}
 use Rattle.engine.specs.Files.{Files, lengthRefusal, filesRefusal, scenarioIn, tableIn}
-use Rattle.engine.specs.State.{zeroState}
-use Rattle.engine.specs.Birth.{newborn, newbornRefusal, birthRefusal, birthAnswer, birthOf}
+use Rattle.engine.specs.Birth.{newborn, birthRefusal, birthAnswer, birthOf}
 use Rattle.engine.specs.Month.{monthAfter, monthAnswer, childRefusal, monthLast, monthOf}
 use Rattle.engine.specs.Run.{Ran, andThen, monthsBy, startRefusal, runOf, runAnswer, runList}
 use Rattle.engine.specs.Ready.{childMonth, childRun, refusedRun}
-use Rattle.engine.proofs.Calls.{month-passed, birth-passed}
+use Rattle.engine.proofs.Calls.{month-passed}
 
 -- the figures bs, and then the run r; and a run that ends with the refusal r, the figures bs and the state b
 abbrev prefixed : List ℕ → Ran → Ran

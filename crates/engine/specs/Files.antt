@@ -1,6 +1,6 @@
 -- A call's files, and why they are refused (document 01, "Calls and refusal numbers").
 -- Assumes nothing.
-use Prim.Native.Nat.{ℕ, _+_}
+use Prim.Native.Nat.{ℕ}
 use mathlib.Core.Bool.{_&&_}
 use mathlib.Core.List.{List, [], _∷_}
 use lib.ListN.{length}

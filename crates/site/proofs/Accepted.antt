@@ -1,7 +1,7 @@
 -- What an accepted site file is known to hold.
 -- Assumes nothing.
-use mathlib.Core.Path.{_≡_, refl, sym, ap, _∙_}
-use mathlib.Core.Bool.{Bool, true, _&&_}
+use mathlib.Core.Path.{_≡_, refl, ap, _∙_}
+use mathlib.Core.Bool.{true, _&&_}
 use mathlib.Core.List.{List, [], _∷_}
 use Prim.Native.Nat.{ℕ, zero, suc, _+_, _≤_, _<_}
 use native.Mathlib.Nat.{le-trans}
@@ -12,14 +12,14 @@ use borrow.Author.Tests.{leb-true}
 use Rattle.numbers.specs.Choice.{unless, every}
 use Rattle.numbers.proofs.Every.{and-left, and-right, every-at}
 use Rattle.numbers.proofs.Refusals.{firstOf-none, unless-none}
-use Rattle.block.specs.Block.{blockRefusal, fieldAt, checkAt, checkOf}
+use Rattle.block.specs.Block.{blockRefusal}
 use Rattle.block.proofs.Sealed.{accepted-check}
 use Rattle.site.specs.declared.Scenario.{Scenario}
 use Rattle.site.specs.Fields.{at, limits, airAt, hoursOutAt, breathingAt, airAbsorptionAt, dietAt, waterAt, soilAt, dustAt, eatenAt, alternateAt, absorbedAt, passiveAt, firstDrawShareAt, fountainShareAt, saturationAt, withinLimits, saturated, sharesFit, fieldsFit}
-use Rattle.site.specs.Scenario.{percentagesFrom, scenarioOf, exposureAt, motherOf, ExposureLimits}
+use Rattle.site.specs.Scenario.{percentagesFrom, scenarioOf, exposureAt, ExposureLimits}
 use Rattle.site.specs.Site.{siteFields, siteRefusal, refusedWith, accepted, answerOf, readSite}
 use Rattle.site.specs.Laws.{ExposureWithin, MotherWithin, RightCheck}
-use Rattle.site.proofs.Tests.{fieldWithin, limit-in}
+use Rattle.site.proofs.Tests.{fieldWithin}
 
 module _ (fields : List ℕ) (fit : fieldsFit fields ≡ true) where
   -- each field is at most its limit

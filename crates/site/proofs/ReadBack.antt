@@ -1,6 +1,6 @@
 -- A written site file is read back as its body's fields, and as the fields that were laid out.
 -- Assumes nothing.
-use mathlib.Core.Path.{_≡_, refl, sym, ap, ap₂, _∙_}
+use mathlib.Core.Path.{_≡_, refl, sym, ap, _∙_}
 use mathlib.Core.Bool.{true}
 use mathlib.Core.List.{List}
 use Prim.Native.Nat.{ℕ, _+_, _*_, _≤_, _<_}
@@ -12,7 +12,7 @@ use lib.Dec.{leb}
 use Rattle.numbers.specs.Choice.{every}
 use Rattle.numbers.proofs.Every.{every-at}
 use Rattle.block.specs.Block.{fieldsOf}
-use Rattle.block.specs.Writer.{sealed, written, bodyOf, BodyPasses}
+use Rattle.block.specs.Writer.{sealed, written, bodyOf}
 use Rattle.block.proofs.Laid.{body-passes, fields-body}
 use Rattle.block.proofs.Sealed.{length-sealed, fields-sealed, sealed-passes, written-sealed}
 use Rattle.site.specs.Fields.{at, limits, fieldsFit}

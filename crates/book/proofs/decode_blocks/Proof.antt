@@ -2,9 +2,7 @@
 -- Assumes nothing.
 use Prim.Native.Nat.{_-_}
 use mathlib.Core.Path.{sym, _∙_}
-use native.Mathlib.Omega.{arith}
 use borrow.Author.Needs.{needs}
-use denote.Ref.{now}
 use Rattle.book.proofs.Decode.{AtBlock, at-first, at-refused, at-next, at-end}
 use Rattle.book.proofs.decode_blocks.Statement.{statement}
 use Rattle.book.proofs.decode_blocks.Tie as tie

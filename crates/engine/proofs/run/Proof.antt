@@ -1,17 +1,15 @@
 -- `engine::run` meets its contract: each way out before the first month, and the months.
 -- Assumes nothing.
 use Prim.Native.Nat.{ℕ}
-use mathlib.Core.Path.{_≡_, sym, ap, ap₂, _∙_}
+use mathlib.Core.Path.{_≡_, sym, ap₂, _∙_}
 use mathlib.Core.List.{List}
-use lib.ListN.{length}
 use borrow.Author.Needs.{needs}
 use denote.Ref.{now}
 use Rattle.site.specs.declared.Scenario.{Scenario}
-use Rattle.engine.specs.declared.RunAnswer.{RunAnswer}
-use Rattle.engine.specs.Files.{Files, filesRefusal, scenarioIn, tableIn}
+use Rattle.engine.specs.Files.{Files}
 use Rattle.engine.specs.Birth.{newborn, newbornRefusal, birthAnswer, birthOf}
 use Rattle.engine.specs.Run.{runAnswer, runList}
-use Rattle.engine.specs.Ready.{filesOf, childRun, FilesDone}
+use Rattle.engine.specs.Ready.{filesOf, childRun}
 use Rattle.engine.proofs.Accepted.{read-decoded, read-long}
 use Rattle.engine.proofs.Calls.{birth-passed}
 use Rattle.engine.proofs.Runs.{run-lengths, run-list, run-files, run-birth, run-months}

@@ -1,7 +1,6 @@
 -- `jurengate::jurengate_birth` meets its contract: what `engine::birth` answers.
 -- Assumes nothing.
-use mathlib.Core.Path.{_≡_, ap, _∙_}
-use Rattle.kinetics.specs.declared.State.{State}
+use mathlib.Core.Path.{ap, _∙_}
 use Rattle.engine.specs.declared.BirthAnswer.{BirthAnswer}
 use Rattle.jurengate.specs.Words.{wordsOf}
 use borrow.Author.Needs.{needs}

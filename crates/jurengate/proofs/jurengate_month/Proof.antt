@@ -1,6 +1,6 @@
 -- `jurengate::jurengate_month` meets its contract: what `engine::month` answers for the state that the words say.
 -- Assumes nothing.
-use mathlib.Core.Path.{_≡_, ap, _∙_}
+use mathlib.Core.Path.{ap, _∙_}
 use denote.Ref.{now}
 use Rattle.kinetics.specs.declared.State.{State}
 use Rattle.engine.specs.declared.MonthAnswer.{MonthAnswer}

@@ -1,6 +1,6 @@
 -- `jurengate::jurengate_read_site` meets its contract: what `site::read_site` answers.
 -- Assumes nothing.
-use mathlib.Core.Path.{_≡_, ap}
+use mathlib.Core.Path.{ap}
 use Rattle.site.specs.declared.SiteRead.{SiteRead}
 use borrow.Author.Needs.{needs}
 use Rattle.jurengate.proofs.jurengate_read_site.Statement.{statement}

@@ -1,7 +1,6 @@
 -- `book::limits::rates_fit` meets its contract: each way out is the first test that fails, or the last.
 -- Assumes nothing.
-use mathlib.Core.Path.{_≡_, sym, _∙_}
-use Prim.Native.Nat.{_+_, _≤_, _<_}
+use mathlib.Core.Path.{sym, _∙_}
 use borrow.Author.Needs.{needs}
 use borrow.Author.Tests.{le-leb, lt-leb}
 use Rattle.book.specs.Row.{ratesFit}

@@ -1,13 +1,13 @@
 -- `book::limits::returns_fit` meets its contract: what is left to look at answers as the whole does.
 -- Assumes nothing.
-use mathlib.Core.Path.{_≡_, refl, sym, ap, _∙_}
-use Prim.Native.Nat.{ℕ, _+_, _-_, _≤_, _<_}
+use mathlib.Core.Path.{_≡_, refl, sym, _∙_}
+use Prim.Native.Nat.{_+_, _-_, _≤_, _<_}
 use native.Mathlib.Omega.{arith}
 use borrow.Author.Needs.{needs}
 use borrow.Author.Tests.{le-leb, lt-leb}
 use Rattle.numbers.specs.Choice.{every}
 use Rattle.numbers.proofs.Every.{every-next, every-stop, every-done}
-use Rattle.book.specs.Row.{unit, back, exit, Rates32, returnsFit}
+use Rattle.book.specs.Row.{unit, back, exit, returnsFit}
 use Rattle.book.proofs.Tests.{returnFits}
 use Rattle.book.proofs.limits.returns_fit.Statement.{statement}
 use Rattle.book.proofs.limits.returns_fit.Tie as tie

@@ -1,15 +1,15 @@
 -- `book::limits::rows_fit` meets its contract: what is left to look at answers as the five rows do.
 -- Assumes nothing.
-use mathlib.Core.Path.{_≡_, refl, sym, ap, _∙_}
+use mathlib.Core.Path.{_≡_, sym, ap, _∙_}
 use mathlib.Core.Bool.{Bool}
 use mathlib.Core.List.{List}
-use Prim.Native.Nat.{ℕ, _+_, _-_, _≤_, _<_}
+use Prim.Native.Nat.{ℕ, _+_, _-_, _≤_}
 use native.Mathlib.Omega.{arith}
 use borrow.Author.Needs.{needs}
 use denote.Ref.{now}
 use Rattle.numbers.specs.Choice.{every}
 use Rattle.numbers.proofs.Every.{every-next, every-stop, every-done}
-use Rattle.book.specs.Row.{rowOf, rowFits, rowsFit, Rates32}
+use Rattle.book.specs.Row.{rowOf, rowFits, rowsFit}
 use Rattle.book.proofs.Tests.{row-rates32}
 use Rattle.book.proofs.limits.rows_fit.Statement.{statement}
 use Rattle.book.proofs.limits.rows_fit.Tie as tie

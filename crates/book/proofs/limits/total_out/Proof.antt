@@ -6,8 +6,6 @@ use Rattle.numbers.specs.Sums.{sumTo}
 use Rattle.book.proofs.Tests.{outs-small}
 use Rattle.book.proofs.limits.total_out.Statement.{statement}
 use Rattle.book.proofs.limits.total_out.Tie as tie
-use Rattle.book.proofs.limits.total_out.Reads as reads
-use Rattle.book.proofs.limits.total_out.Lts as lts
 
 array-read-result : tie.Need-array-read-result
 array-read-result c = search needs

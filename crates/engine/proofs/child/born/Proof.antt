@@ -7,8 +7,6 @@ use lib.ListN.{length, getD}
 use borrow.Author.Needs.{needs}
 use denote.Ref.{now}
 use Rattle.numbers.specs.Sums.{sumTo}
-use Rattle.book.specs.declared.Row.{Row}
-use Rattle.book.specs.Row.{RowLimits}
 use Rattle.kinetics.specs.Birth.{birthState}
 use Rattle.kinetics.specs.Step.{burden}
 use Rattle.engine.specs.Birth.{newborn}

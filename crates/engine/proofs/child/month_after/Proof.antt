@@ -1,16 +1,13 @@
 -- `engine::child::month_after` meets its contract: refused by its intakes, or its steps at its row with its uptake.
 -- Assumes nothing.
-use Prim.Native.Nat.{ℕ, _+_, _≤_, _<_}
 use mathlib.Core.Path.{_≡_, sym, ap, _∙_}
 use native.Mathlib.Omega.{arith}
 use borrow.Author.Needs.{needs}
 use denote.Ref.{now}
 use Rattle.site.specs.Scenario.{exposureAt, ExposureLimits}
-use Rattle.book.specs.Row.{rowOf, RowLimits}
-use Rattle.uptake.specs.Age.{ageOf}
 use Rattle.uptake.specs.Intake.{intakesOf, refusalOf, intakeRefusal}
 use Rattle.uptake.proofs.Ready.{accept}
-use Rattle.engine.specs.Month.{monthAfter, exposureIn, monthUptake}
+use Rattle.engine.specs.Month.{monthAfter, exposureIn}
 use Rattle.engine.proofs.Passed.{passed-before}
 use Rattle.engine.proofs.Calls.{month-intake-refused, month-stepped, taken-uptake, weights-within}
 use Rattle.engine.proofs.child.month_after.Statement.{statement}

@@ -1,6 +1,6 @@
 -- `engine::files::read_files` meets its contract: refused by a length, by the site file, or read as the book says.
 -- Assumes nothing.
-use mathlib.Core.Path.{ap, sym, _∙_}
+use mathlib.Core.Path.{ap, _∙_}
 use borrow.Author.Needs.{needs}
 use denote.Ref.{now}
 use Rattle.site.specs.declared.SiteRead.{SiteRead}

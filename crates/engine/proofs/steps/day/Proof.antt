@@ -1,10 +1,9 @@
 -- `engine::steps::day` meets its contract: at step k the shares from k on are left.
 -- Assumes nothing.
-use Prim.Native.Nat.{_-_, _≤_}
-use mathlib.Core.Path.{_≡_, refl, sym, _∙_}
+use Prim.Native.Nat.{_-_}
+use mathlib.Core.Path.{refl}
 use native.Mathlib.Omega.{arith}
 use borrow.Author.Needs.{needs}
-use Rattle.engine.specs.Ready.{Steppable}
 use Rattle.engine.proofs.Loops.{InDay, day-start, share-le, day-stop, day-ready, day-next, day-end, day-refused}
 use Rattle.engine.proofs.steps.day.Statement.{statement}
 use Rattle.engine.proofs.steps.day.Tie as tie

@@ -3,7 +3,7 @@
 use Rattle.site.proofs.by_age.widened.Statement.{statement}
 use Rattle.site.proofs.by_age.widened.Tie as tie
 use mathlib.Core.Path.{_≡_, refl, _∙_}
-use Prim.Native.Nat.{ℕ, _-_, _≤_}
+use Prim.Native.Nat.{_-_, _≤_}
 use native.Mathlib.Omega.{arith}
 use lib.ListN.{length, take, length-set}
 use borrow.Author.Needs.{needs}

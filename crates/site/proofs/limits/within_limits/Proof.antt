@@ -2,9 +2,8 @@
 -- Assumes nothing.
 use Rattle.site.proofs.limits.within_limits.Statement.{statement}
 use Rattle.site.proofs.limits.within_limits.Tie as tie
-use mathlib.Core.Path.{_≡_, refl, sym, ap, _∙_}
-use Prim.Native.Nat.{ℕ, _-_, _<_, _≤_}
-use native.Mathlib.Omega.{arith}
+use mathlib.Core.Path.{_≡_, refl, sym, _∙_}
+use Prim.Native.Nat.{_-_, _<_, _≤_}
 use borrow.Author.Needs.{needs}
 use borrow.Author.Tests.{le-leb, lt-leb}
 use Rattle.numbers.specs.Choice.{every}
