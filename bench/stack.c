@@ -1,0 +1,75 @@
+/* Peak stack of each call: the call runs in a thread whose stack was painted, and what is no longer paint is counted. */
+#include <pthread.h>
+#include <stdint.h>
+#include <stdio.h>
+#include <stdlib.h>
+#include <string.h>
+
+#include "jurengate.h"
+
+enum { STACK_BYTES = 1 << 20, SITE_BYTES = 512, BOOK_BYTES = 8704, MONTHS = 84, STATE_WORDS = 11, PAINT = 0xA5 };
+
+static uint8_t site[SITE_BYTES], book[BOOK_BYTES];
+static uint64_t state[STATE_WORDS];
+static uint32_t figures[MONTHS], fields[94], blood, months, refusal;
+static uint8_t target[SITE_BYTES];
+
+static void nothing(void) {}
+static void read_site(void) { refusal = jurengate_read_site(site, sizeof site, fields); }
+static void write_block(void) { refusal = jurengate_write_block(site, 508, target, sizeof target); }
+static void birth(void) { refusal = jurengate_birth(site, sizeof site, book, sizeof book, state); }
+static void month(void) { refusal = jurengate_month(site, sizeof site, book, sizeof book, state, &blood); }
+static void run(void) { refusal = jurengate_run(site, sizeof site, book, sizeof book, figures, MONTHS, state, &months); }
+
+static void *in_thread(void *call) {
+    ((void (*)(void))call)();
+    return NULL;
+}
+
+static size_t peak(void (*call)(void)) {
+    static uint8_t *stack;
+    if (stack == NULL && posix_memalign((void **)&stack, 4096, STACK_BYTES) != 0) {
+        exit(2);
+    }
+    memset(stack, PAINT, STACK_BYTES);
+    pthread_attr_t attributes;
+    pthread_attr_init(&attributes);
+    pthread_attr_setstack(&attributes, stack, STACK_BYTES);
+    pthread_t thread;
+    if (pthread_create(&thread, &attributes, in_thread, (void *)call) != 0) {
+        exit(2);
+    }
+    pthread_join(thread, NULL);
+    size_t left = 0;
+    while (left < STACK_BYTES && stack[left] == PAINT) {
+        left++;
+    }
+    return STACK_BYTES - left;
+}
+
+static void fill(const char *name, uint8_t *bytes, size_t size) {
+    FILE *file = fopen(name, "rb");
+    if (file == NULL || fread(bytes, 1, size, file) != size) {
+        fprintf(stderr, "stack: cannot read %s\n", name);
+        exit(2);
+    }
+    fclose(file);
+}
+
+int main(int argc, char **argv) {
+    if (argc != 3) {
+        fprintf(stderr, "usage: stack SITE BOOK\n");
+        return 2;
+    }
+    fill(argv[1], site, sizeof site);
+    fill(argv[2], book, sizeof book);
+    size_t thread = peak(nothing);
+    struct { const char *name; void (*call)(void); } calls[] = {
+        {"read_site", read_site}, {"write_block", write_block}, {"birth", birth}, {"month", month}, {"run", run},
+    };
+    for (size_t i = 0; i < sizeof calls / sizeof calls[0]; i++) {
+        printf("%s: %zu bytes of stack", calls[i].name, peak(calls[i].call) - thread);
+        printf(", refusal %u\n", (unsigned)refusal);
+    }
+    return 0;
+}

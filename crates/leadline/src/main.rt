@@ -1,0 +1,53 @@
+// Prints the blood lead of a child, a line for each month, from site.lkb and book.lkb in the current folder.
+// A file that is missing or cannot be opened counts as empty. Where reading fails, what was read until then counts as the file.
+use libc::STDOUT_FILENO;
+use printout::LINES;
+use printout::Prepared;
+ghost use Prim.Native.Nat.{_≤_};
+ghost use Rattle.io.specs.Counts.{Counts};
+
+// Reads what the buffer holds of a file, and answers how many bytes came.
+fn read_file(path: &[u8], buffer: &mut [u8]) -> usize
+    ensures { λ r. ⌜ Counts r (now (buffer .exit)) ⌝ }
+{
+    let file = os::open_read(path);
+    if file < 0 {
+        return 0;
+    }
+    let bytes = io::read_full(file, buffer);
+    libc::close(file);
+    bytes
+}
+
+// Prints line k, and answers whether it was written; says on standard error why not.
+fn print_line(run: Prepared, k: u32) -> bool
+    requires { ⌜ run .months ≤ 84 ⌝ }
+{
+    let mut line = [0u8; 36];
+    let bytes = printout::line(run, k, &mut line);
+    let is_written = io::write_all(STDOUT_FILENO, &line[..bytes]);
+    if !is_written {
+        os::fail(b"leadline");
+    }
+    is_written
+}
+
+// Prints each line, up to the first that cannot be written.
+fn print_lines(run: Prepared)
+    requires { ⌜ run .months ≤ 84 ⌝ }
+{
+    let mut k: u32 = 0;
+    while k < LINES && print_line(run, k) {
+        k = k + 1;
+    }
+}
+
+// Each buffer is a byte longer than its format, so that a longer file has a wrong length and is not read whole.
+fn main() {
+    let mut site = [0u8; 513];
+    let mut book = [0u8; 8705];
+    let site_bytes = read_file(b"site.lkb", &mut site);
+    let book_bytes = read_file(b"book.lkb", &mut book);
+    let run = printout::prepare(&site[..site_bytes], &book[..book_bytes]);
+    print_lines(run);
+}

@@ -1,0 +1,12 @@
+-- The lines that document 01 shows.
+-- Assumes nothing.
+use mathlib.Core.Path.{refl, _∙_}
+use mathlib.Core.List.{[]}
+use native.Mathlib.Omega.{arith}
+use Rattle.printout.specs.Printout.{digitsWithin, figure, monthLine, refusedLine}
+use Rattle.printout.specs.Bench.{Bench}
+use Rattle.printout.proofs.Length.{book-printed}
+
+pub bench : Bench
+unfolding digitsWithin figure monthLine refusedLine
+bench = record { below = refl; over = refl; down = refl; up = refl; empty = λ site. book-printed site [] (λ e. omega arith) }

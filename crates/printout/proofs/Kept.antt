@@ -1,0 +1,47 @@
+-- What is kept of a run: at most 84 months, in 84 places.
+-- Assumes nothing.
+use mathlib.Core.Path.{_≡_, ap, ap₂}
+use Prim.Native.Nat.{ℕ, zero, suc, _≤_}
+use mathlib.Core.List.{List}
+use native.Mathlib.Omega.{arith}
+use lib.ListN.{length, replicate}
+use Rattle.kinetics.specs.declared.State.{State}
+use Rattle.engine.specs.declared.MonthAnswer.{MonthAnswer}
+use Rattle.engine.specs.declared.RunAnswer.{RunAnswer}
+use Rattle.engine.specs.Files.{Files}
+use Rattle.engine.specs.Birth.{birthOf}
+use Rattle.engine.specs.Month.{monthOf}
+use Rattle.engine.specs.Run.{Ran, andThen, monthsBy, startRefusal, afterStart, runOf, runAnswer, runList}
+use Rattle.printout.specs.declared.Prepared.{Prepared}
+use Rattle.printout.specs.Lines.{preparedOf}
+
+then-few : (r : ℕ) (m : MonthAnswer) (x : Ran) (n : ℕ) → length (x .bloods) ≤ n → length (andThen r m x .bloods) ≤ suc n
+then-few zero m x n h = omega arith
+then-few (suc r) m x n h = omega arith
+
+months-few : (call : State → MonthAnswer) (n : ℕ) (a : State) → length (monthsBy call n a .bloods) ≤ n
+unfolding monthsBy
+months-few call zero a = omega arith
+months-few call (suc n) a = then-few (call a .refusal) (call a) (monthsBy call n (call a .state)) n (months-few call n (call a .state))
+
+start-few : (r : ℕ) (x : Ran) (n : ℕ) → length (x .bloods) ≤ n → length (afterStart r x .bloods) ≤ n
+start-few zero x n h = h
+start-few (suc r) x n h = omega arith
+
+pub run-few : (s : ℕ) (f : Files) (places : ℕ) → length (runOf s f places .bloods) ≤ 84
+unfolding runOf
+run-few s f places =
+    start-few (startRefusal f places) (monthsBy (λ a. monthOf s a f) 84 (birthOf f .state)) 84
+    (months-few (λ a. monthOf s a f) 84 (birthOf f .state))
+
+-- a run's answer and its list of figures, kept
+abbrev kept : RunAnswer → List ℕ → Prepared
+kept x blood = record { refusal = x .refusal; months = x .months; blood = blood }
+
+module _ (f : Files) (x : RunAnswer) (answer : x ≡ runAnswer (runOf 6 f 84)) where
+  pub kept-is : (blood : List ℕ) → blood ≡ runList (runOf 6 f 84) (replicate 84 0) → kept x blood ≡ preparedOf f
+  unfolding preparedOf
+  kept-is blood list = ap₂ kept answer list
+
+  pub kept-few : x .months ≤ 84
+  kept-few = rw (ap (λ (y : RunAnswer). y .months) answer) (run-few 6 f 84)

@@ -1,0 +1,57 @@
+-- `printout::line` meets its contract: a month's line, the last line, or nothing.
+-- Assumes nothing.
+use borrow.Author.Needs.{needs}
+use native.Mathlib.Omega.{arith}
+use Rattle.printout.proofs.Puts.{put-holds, none-held}
+use Rattle.printout.proofs.Whole.{line-month, line-refused, line-past, line-none}
+use Rattle.printout.proofs.line.Statement.{statement}
+use Rattle.printout.proofs.line.Tie as tie
+
+add-put-month : tie.Need-add-put-month
+add-put-month c = search needs
+
+mul-put-month : tie.Need-mul-put-month
+mul-put-month c = search needs
+
+array-read-put-month : tie.Need-array-read-put-month
+array-read-put-month c = search needs
+
+put-month-requires : tie.Need-put-month-requires
+put-month-requires c κs = search needs
+
+returns : tie.Need-returns
+returns c =
+    let a = c .before .before .before .before .args in
+    put-holds (line-month (a .run) (a .k) (c .before .before .before .if1 .taken)) (c .put-month .ensures)
+
+returns-2 : tie.Need-returns-2
+returns-2 c =
+    let a = c .before .before .args in
+    none-held (line-past (a .run) (a .k) (omega arith))
+
+returns-3 : tie.Need-returns-3
+returns-3 c =
+    let a = c .before .before .before .args in
+    none-held (line-none (a .run) (a .k) (c .before .if2 .left) (c .if3 .taken))
+
+put-refused-requires : tie.Need-put-refused-requires
+put-refused-requires c κs = search needs
+
+returns-4 : tie.Need-returns-4
+returns-4 c =
+    let a = c .before .before .before .before .before .args in
+    put-holds (line-refused (a .run) (a .k) (c .before .before .before .if2 .left) (c .before .before .if3 .left)) (c .put-refused .ensures)
+
+pub line-spec : {M : Type 1} → statement M
+line-spec =
+    tie.close
+    (tie.spec
+    add-put-month
+    mul-put-month
+    array-read-put-month
+    put-month-requires
+    returns
+    returns-2
+    returns-3
+    put-refused-requires
+    returns-4)

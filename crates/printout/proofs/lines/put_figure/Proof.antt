@@ -1,0 +1,37 @@
+-- `printout::lines::put_figure` meets its contract: the whole part, a point, and one decimal.
+-- Assumes nothing.
+use borrow.Author.Needs.{needs}
+use Rattle.printout.proofs.Puts.{put-then}
+use Rattle.printout.proofs.Parts.{put-figure}
+use Rattle.printout.proofs.lines.put_figure.Statement.{statement}
+use Rattle.printout.proofs.lines.put_figure.Tie as tie
+
+tenths-of-requires : tie.Need-tenths-of-requires
+tenths-of-requires c κs = search needs
+
+put-decimal-requires : tie.Need-put-decimal-requires
+put-decimal-requires c κs = search needs
+
+put-byte-requires : tie.Need-put-byte-requires
+put-byte-requires c κs = search needs
+
+put-digit-requires : tie.Need-put-digit-requires
+put-digit-requires c κs = search needs
+
+same-length : tie.Need-same-length
+same-length c = search needs
+
+returns : tie.Need-returns
+returns c =
+    put-figure (c .before .before .before .before .before .before .before .before .before .before .before .before .before .before .args .blood) (c .before .before .before .before .before .before .before .before .before .before .before .before .tenths-of .ensures) (put-then (c .before .before .before .before .before .before .before .before .before .before .put-decimal .ensures) (put-then (c .before .before .before .before .before .before .put-byte .ensures) (c .before .before .put-digit .ensures)))
+
+pub put-figure-spec : {M : Type 1} → statement M
+put-figure-spec =
+    tie.close
+    (tie.spec
+    tenths-of-requires
+    put-decimal-requires
+    put-byte-requires
+    put-digit-requires
+    same-length
+    returns)

@@ -1,0 +1,24 @@
+-- `printout::prepare` meets its contract: what it keeps of the run is what the run answers and writes.
+-- Assumes nothing.
+use denote.Ref.{now}
+use Rattle.engine.specs.Ready.{filesOf}
+use Rattle.printout.proofs.Kept.{kept-is, kept-few}
+use borrow.Author.Needs.{needs}
+use Rattle.printout.proofs.prepare.Statement.{statement}
+use Rattle.printout.proofs.prepare.Tie as tie
+
+slice-aggregate-run : tie.Need-slice-aggregate-run
+slice-aggregate-run c = search needs
+
+run-requires : tie.Need-run-requires
+run-requires c κs = search needs
+
+returns : tie.Need-returns
+returns c =
+    let a = c .before .before .before .before .before .args in
+    let f = filesOf (now (a .site)) (now (a .book)) in
+    let run = c .before .run in
+    (kept-is f _ (run .ensures .0) _ (run .ensures .1), kept-few f _ (run .ensures .0))
+
+pub prepare-spec : {M : Type 1} → statement M
+prepare-spec = tie.close (tie.spec slice-aggregate-run run-requires returns)

@@ -1,0 +1,28 @@
+-- The laws of the printout.
+-- Assumes nothing.
+use mathlib.Core.Path.{_≡_}
+use Prim.Native.Nat.{ℕ, suc, _+_, _-_, _*_, _^_, _<_}
+use mathlib.Core.List.{List, [], _∷_}
+use lib.ListN.{take}
+use Rattle.engine.specs.Files.{Files}
+use Rattle.engine.specs.State.{lastMonth}
+use Rattle.engine.specs.Ready.{filesOf}
+use Rattle.printout.specs.Printout.{decimal, printout}
+use Rattle.printout.specs.Lines.{preparedOf, lineAt, linesFrom}
+
+-- a printout is its lines 0 to 84
+abbrev pub LinesLaw : Type 0
+LinesLaw = (f : Files) → printout f ≡ linesFrom (lineAt (preparedOf f)) 0 (suc lastMonth)
+
+-- a longer file is refused by its length: one byte past each format is enough to read
+abbrev pub FirstBytesLaw : Type 0
+FirstBytesLaw = (site book : List ℕ) → printout (filesOf (take 513 site) (take 8_705 book)) ≡ printout (filesOf site book)
+
+-- the number that digits give after the number v
+unfoldable pub valueFrom : ℕ → List ℕ → ℕ
+valueFrom v [] = v
+valueFrom v (d ∷ ds) = valueFrom (10 * v + (d - 48)) ds
+
+-- the digits of a number give the number
+abbrev pub DecimalLaw : Type 0
+DecimalLaw = (n : ℕ) → n < 10 ^ 10 → valueFrom 0 (decimal n) ≡ n

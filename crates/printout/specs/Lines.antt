@@ -1,0 +1,29 @@
+-- The printout line by line: what is kept of a run, and its lines.
+-- Assumes nothing.
+use mathlib.Core.Path.{_≡_}
+use Prim.Native.Nat.{ℕ, zero, suc}
+use mathlib.Core.Bool.{cond}
+use mathlib.Core.List.{List, [], _++_}
+use lib.ListN.{length, getD, replicate}
+use lib.Dec.{ltb, eqb}
+use Rattle.engine.specs.Files.{Files}
+use Rattle.engine.specs.State.{lastMonth}
+use Rattle.engine.specs.Run.{Ran, runOf, runList}
+use Rattle.printout.specs.declared.Prepared.{Prepared}
+use Rattle.printout.specs.Printout.{monthLine, lastLine, printout}
+
+-- what is kept of a run: its refusal, the months done, and 84 places that begin with their figures
+abbrev pub keptOf : Ran → Prepared
+keptOf r = record { refusal = r .refusal; months = length (r .bloods); blood = runList r (replicate lastMonth 0) }
+
+unfoldable pub preparedOf : Files → Prepared
+preparedOf f = keptOf (runOf 6 f lastMonth)
+
+-- line k, from 0: a line for each month done, then the last line, and nothing after it
+unfoldable pub lineAt : Prepared → ℕ → List ℕ
+lineAt p k = cond (ltb k (p .months)) (monthLine (suc k) (getD (p .blood) k 0)) (cond (eqb k (p .months)) (lastLine (p .refusal) (p .months)) [])
+
+-- n lines from line k on, one after the other
+unfoldable pub linesFrom : (ℕ → List ℕ) → ℕ → ℕ → List ℕ
+linesFrom line k zero = []
+linesFrom line k (suc n) = line k ++ linesFrom line (suc k) n

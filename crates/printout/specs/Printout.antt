@@ -1,0 +1,78 @@
+-- The bytes that leadline prints, as a function of the bytes of its two files (document 01, "leadline").
+-- Assumes nothing.
+use Prim.Native.Nat.{ℕ, zero, suc, _+_, _/_, _%_}
+use mathlib.Core.Bool.{cond}
+use mathlib.Core.List.{List, [], _∷_, _++_}
+use lib.ListN.{length}
+use lib.Dec.{ltb}
+use Rattle.engine.specs.Files.{Files}
+use Rattle.engine.specs.State.{lastMonth}
+use Rattle.engine.specs.Run.{Ran, runOf}
+
+-- bytes that lines are made of
+abbrev pub lineFeed : ℕ
+lineFeed = 10
+
+abbrev pub space : ℕ
+space = 32
+
+abbrev pub point : ℕ
+point = 46
+
+-- the byte of a digit below 10
+abbrev pub digit : ℕ → ℕ
+digit d = 48 + d
+
+-- the decimal digits of n, without leading zeros, where k digits hold it
+unfoldable pub digitsWithin : ℕ → ℕ → List ℕ
+digitsWithin zero n = []
+digitsWithin (suc k) n = cond (ltb n 10) (digit n ∷ []) (digitsWithin k (n / 10) ++ (digit (n % 10) ∷ []))
+
+-- the decimal digits of a number of 32 bits, which are ten at most
+abbrev pub decimal : ℕ → List ℕ
+decimal n = digitsWithin 10 n
+
+-- a blood figure in tenths of ug/dL, rounded half up
+abbrev pub tenths : ℕ → ℕ
+tenths blood = (blood + 50) / 100
+
+-- a blood figure in ug/dL, to one decimal
+unfoldable pub figure : ℕ → List ℕ
+figure blood = decimal (tenths blood / 10) ++ (point ∷ digit (tenths blood % 10) ∷ [])
+
+-- `W` if the unrounded figure is over 30,000, else `-`
+abbrev pub flag : ℕ → ℕ
+flag blood = cond (ltb 30_000 blood) 87 45
+
+-- a month's line: month, figure, flag
+unfoldable pub monthLine : ℕ → ℕ → List ℕ
+monthLine month blood = decimal month ++ (space ∷ (figure blood ++ (space ∷ flag blood ∷ lineFeed ∷ [])))
+
+-- the lines of the months after m
+unfoldable pub monthLines : ℕ → List ℕ → List ℕ
+monthLines m [] = []
+monthLines m (blood ∷ bloods) = monthLine (suc m) blood ++ monthLines (suc m) bloods
+
+-- `refused ` and ` after `
+abbrev pub refusedText : List ℕ
+refusedText = 114 ∷ 101 ∷ 102 ∷ 117 ∷ 115 ∷ 101 ∷ 100 ∷ 32 ∷ []
+
+abbrev pub afterText : List ℕ
+afterText = 32 ∷ 97 ∷ 102 ∷ 116 ∷ 101 ∷ 114 ∷ 32 ∷ []
+
+-- the last line of a refused run: its number, and the months done
+unfoldable pub refusedLine : ℕ → ℕ → List ℕ
+refusedLine refusal months = refusedText ++ (decimal refusal ++ (afterText ++ (decimal months ++ (lineFeed ∷ []))))
+
+-- how a printout ends: a run that was not refused has no last line
+abbrev pub lastLine : ℕ → ℕ → List ℕ
+lastLine zero months = []
+lastLine (suc r) months = refusedLine (suc r) months
+
+-- what is printed of a run
+unfoldable pub printoutOf : Ran → List ℕ
+printoutOf r = monthLines 0 (r .bloods) ++ lastLine (r .refusal) (length (r .bloods))
+
+-- what is printed of two files, at six steps a day
+abbrev pub printout : Files → List ℕ
+printout f = printoutOf (runOf 6 f lastMonth)

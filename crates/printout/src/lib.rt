@@ -1,0 +1,56 @@
+// What leadline prints, a line at a time, from the bytes of its two files. Reading files and writing bytes is left to the program.
+ghost use mathlib.Core.Path.{_≡_};
+ghost use Prim.Native.Nat.{_≤_};
+ghost use Rattle.engine.specs.Ready.{filesOf};
+ghost use Rattle.printout.specs.Text.{Holds};
+ghost use Rattle.printout.specs.Lines.{preparedOf, lineAt};
+
+mod text; // text.rt: bytes, text and decimal numbers, put into a line
+mod lines; // lines.rt: a month's line and the last line
+
+// Bytes that every line fits in: the longest has two texts of 15 bytes, two numbers of ten digits and a line feed.
+pub const LINE_BYTES: usize = 36;
+
+// Lines of a printout at most: 84 months and the last line.
+pub const LINES: u32 = 85;
+
+// What is kept of a run for its printout.
+pub struct Prepared {
+    pub refusal: u32,
+    pub months: u32,
+    pub blood: [u32; 84], // thousandths of ug/dL, of the months done
+}
+
+// Runs the two files, of any length and content.
+pub fn prepare(site: &[u8], book: &[u8]) -> Prepared
+    ensures { λ r. ⌜ r ≡ preparedOf (filesOf (now (site .entry)) (now (book .entry))) ⌝ }
+    ensures { λ r. ⌜ r .months ≤ 84 ⌝ }
+{
+    let mut blood = [0u32; 84];
+    let answer = engine::run(site, book, &mut blood);
+    Prepared {
+        refusal: answer.refusal,
+        months: answer.months,
+        blood,
+    }
+}
+
+// Puts line k, from 0, at the start of the target, and answers its length: 0 past the last line.
+pub fn line(run: Prepared, k: u32, target: &mut [u8; 36]) -> usize
+    requires { ⌜ run .months ≤ 84 ⌝ }
+    ensures { λ r. ⌜ Holds (lineAt run k) (now (target .exit)) r ⌝ }
+{
+    let months = run.months;
+    if k < months {
+        let blood = run.blood;
+        return lines::put_month(target, k + 1, blood[k as usize]);
+    }
+    let refusal = run.refusal;
+    if k != months {
+        return 0;
+    }
+    if refusal == 0 {
+        return 0;
+    }
+    lines::put_refused(target, refusal, months)
+}

@@ -1,0 +1,160 @@
+//! The program `leadline`, run in many folders and held to the model byte for byte.
+
+use jurengate_model::book::{column, RowFields, BOOK_ROWS, ROW_FIELDS};
+use jurengate_model::cards::{book_file, curves, published, site_file};
+use jurengate_model::printout::printout;
+use jurengate_model::random::{book, damaged, fault, site, temper, Dice, Fault, Intake};
+use jurengate_model::site::{place, SATURATION_LEAST, SITE_FIELDS};
+use std::env;
+use std::fs;
+use std::path::{Path, PathBuf};
+use std::process::Command;
+
+/// The program, as the gate leaves it.
+fn program() -> PathBuf {
+    let built = Path::new(env!("CARGO_MANIFEST_DIR")).join("../target/bin/leadline");
+    built.canonicalize().expect("rt check leadline has built the program")
+}
+
+/// A folder with the files that are there.
+fn folder(name: &str, site: Option<&[u8]>, book: Option<&[u8]>) -> PathBuf {
+    let folder = env::temp_dir().join(format!("leadline-{}-{name}", std::process::id()));
+    fs::create_dir_all(&folder).expect("a temporary folder");
+    for (file, bytes) in [("site.lkb", site), ("book.lkb", book)] {
+        if let Some(bytes) = bytes {
+            fs::write(folder.join(file), bytes).expect("a file is written");
+        }
+    }
+    folder
+}
+
+/// What the program prints in a folder.
+fn printed(folder: &Path) -> Vec<u8> {
+    let output = Command::new(program()).current_dir(folder).output().expect("the program runs");
+    assert!(output.status.success());
+    assert!(output.stderr.is_empty(), "{}", String::from_utf8_lossy(&output.stderr));
+    output.stdout
+}
+
+/// Runs the program on two files, of which one may be missing, and compares.
+fn compare(name: &str, site: Option<&[u8]>, book: Option<&[u8]>) -> Vec<u8> {
+    let folder = folder(name, site, book);
+    let bytes = printed(&folder);
+    let expected = printout(site.unwrap_or(&[]), book.unwrap_or(&[]));
+    assert_eq!(String::from_utf8_lossy(&bytes), String::from_utf8_lossy(&expected), "{name}");
+    fs::remove_dir_all(&folder).expect("the folder is removed");
+    bytes
+}
+
+fn last_line(bytes: &[u8]) -> String {
+    String::from_utf8_lossy(bytes).lines().last().unwrap_or_default().to_string()
+}
+
+#[test]
+fn missing_short_and_long_files() {
+    let (site, book) = (published::site(), curves::book());
+    let longer = |bytes: &[u8], more: usize| [bytes, &vec![0; more]].concat();
+    let refused = "refused 1 after 0";
+    assert_eq!(last_line(&compare("no-files", None, None)), refused);
+    assert_eq!(last_line(&compare("no-book", Some(&site), None)), refused);
+    assert_eq!(last_line(&compare("no-site", None, Some(&book))), refused);
+    assert_eq!(last_line(&compare("empty-book", Some(&site), Some(&[]))), refused);
+    assert_eq!(last_line(&compare("short-site", Some(&site[..511]), Some(&book))), refused);
+    assert_eq!(last_line(&compare("short-book", Some(&site), Some(&book[..8703]))), refused);
+    for more in [1, 512, 100_000] {
+        assert_eq!(last_line(&compare("long-site", Some(&longer(&site, more)), Some(&book))), refused);
+        assert_eq!(last_line(&compare("long-book", Some(&site), Some(&longer(&book, more)))), refused);
+    }
+}
+
+#[test]
+fn files_that_cannot_be_read_count_as_empty() {
+    let folder = folder("folders", None, None);
+    fs::create_dir_all(folder.join("site.lkb")).expect("a folder by the site file's name");
+    fs::create_dir_all(folder.join("book.lkb")).expect("a folder by the book's name");
+    assert_eq!(printed(&folder), b"refused 1 after 0\n");
+    fs::remove_dir_all(&folder).expect("the folder is removed");
+}
+
+#[test]
+fn the_published_default() {
+    let bytes = compare("default", Some(&published::site()), Some(&curves::book()));
+    assert_eq!(bytes.iter().filter(|byte| **byte == b'\n').count(), 84);
+}
+
+/// A child that keeps its birth's red cells and takes up nothing: its blood figure is 85 % of the mother's in every month.
+fn still_child(mother: u32) -> (Vec<u8>, Vec<u8>) {
+    let mut fields = [0; SITE_FIELDS];
+    fields[place::SATURATION] = SATURATION_LEAST;
+    fields[place::MOTHER] = mother;
+    let mut row: RowFields = [0; ROW_FIELDS];
+    row[column::VB] = 1_000;
+    row[column::VP] = 1;
+    row[column::BODY] = 10_000;
+    row[column::OUT] = 1;
+    (site_file(&fields), book_file(&[row; BOOK_ROWS]))
+}
+
+#[test]
+fn the_mark_at_30000_and_30001() {
+    for (mother, line) in [(35_295, "84 30.0 -"), (35_296, "84 30.0 W")] {
+        let (site, book) = still_child(mother);
+        assert_eq!(last_line(&compare("mark", Some(&site), Some(&book))), line);
+    }
+}
+
+#[test]
+fn every_refusal_number() {
+    let mut dice = Dice::new(20);
+    let faults = [
+        Fault::SiteCheck,
+        Fault::SiteEdition,
+        Fault::SiteNumber,
+        Fault::SiteReserved,
+        Fault::SiteField(0),
+        Fault::Shares,
+        Fault::SaturationLow,
+        Fault::BlockCheck(16),
+        Fault::BlockEdition(0),
+        Fault::BlockNumber(7),
+        Fault::BlockReserved(16),
+        Fault::Intake(Intake::ConstantWater, 4),
+    ];
+    for each in faults {
+        let (site, book) = damaged(&mut dice, &published::fields(), &curves::rows(), &[each]);
+        let line = last_line(&compare("faults", Some(&site), Some(&book)));
+        assert!(line.starts_with(&format!("refused {} after ", each.number())), "{line}");
+    }
+}
+
+#[test]
+fn random_cards() {
+    let mut dice = Dice::new(21);
+    for _ in 0..150 {
+        let kind = temper(&mut dice);
+        let (site, book) = (site(&mut dice, kind), book(&mut dice, kind));
+        compare("random", Some(&site), Some(&book));
+    }
+}
+
+#[test]
+fn random_damage() {
+    let mut dice = Dice::new(22);
+    for _ in 0..150 {
+        let each = fault(&mut dice);
+        let (site, book) = damaged(&mut dice, &published::fields(), &curves::rows(), &[each]);
+        compare("damage", Some(&site), Some(&book));
+    }
+}
+
+#[test]
+fn the_samples_print_what_is_stored() {
+    let samples = Path::new(env!("CARGO_MANIFEST_DIR")).join("../samples");
+    for name in ["default", "heavy", "refused-intake", "refused-burden"] {
+        let folder = samples.join(name);
+        let stored = fs::read(folder.join("printout.txt")).expect("a stored printout");
+        assert_eq!(printed(&folder), stored, "{name}");
+        let read = |file| fs::read(folder.join(file)).expect("a stored card");
+        assert_eq!(printout(&read("site.lkb"), &read("book.lkb")), stored, "{name}");
+    }
+}
