@@ -35,7 +35,15 @@ fn state_of(words: [u64; 11]) -> State
 {
     State {
         month: words[0],
-        lead: [words[1], words[2], words[3], words[4], words[5], words[6], words[7]],
+        lead: [
+            words[1],
+            words[2],
+            words[3],
+            words[4],
+            words[5],
+            words[6],
+            words[7],
+        ],
         ledgers: [words[8], words[9], words[10]],
     }
 }
@@ -76,7 +84,12 @@ pub extern "C" fn jurengate_birth(site: &[u8], book: &[u8], state: &mut [u64; 11
 
 // One month: the child a month later and its blood figure; where it is refused, the child as it was and 0.
 #[no_mangle]
-pub extern "C" fn jurengate_month(site: &[u8], book: &[u8], state: &mut [u64; 11], blood: &mut u32) -> u32
+pub extern "C" fn jurengate_month(
+    site: &[u8],
+    book: &[u8],
+    state: &mut [u64; 11],
+    blood: &mut u32,
+) -> u32
     ensures { λ r. ⌜ r ≡ monthOf 6 (stateOf (now (state .entry))) (filesOf (now (site .entry)) (now (book .entry))) .refusal ⌝ }
     ensures { λ _. ⌜ now (state .exit) ≡ wordsOf (monthOf 6 (stateOf (now (state .entry))) (filesOf (now (site .entry)) (now (book .entry))) .state) ⌝ }
     ensures { λ _. ⌜ now (blood .exit) ≡ monthOf 6 (stateOf (now (state .entry))) (filesOf (now (site .entry)) (now (book .entry))) .blood ⌝ }
@@ -92,7 +105,13 @@ pub extern "C" fn jurengate_month(site: &[u8], book: &[u8], state: &mut [u64; 11
 
 // The run: birth and 84 months, the figure of each month done written into the list.
 #[no_mangle]
-pub extern "C" fn jurengate_run(site: &[u8], book: &[u8], blood: &mut [u32], state: &mut [u64; 11], months: &mut u32) -> u32
+pub extern "C" fn jurengate_run(
+    site: &[u8],
+    book: &[u8],
+    blood: &mut [u32],
+    state: &mut [u64; 11],
+    months: &mut u32,
+) -> u32
     ensures { λ r. ⌜ r ≡ runOf 6 (filesOf (now (site .entry)) (now (book .entry))) (length (now (blood .entry))) .refusal ⌝ }
     ensures { λ _. ⌜ now (blood .exit) ≡ runList (runOf 6 (filesOf (now (site .entry)) (now (book .entry))) (length (now (blood .entry)))) (now (blood .entry)) ⌝ }
     ensures { λ _. ⌜ now (state .exit) ≡ wordsOf (runOf 6 (filesOf (now (site .entry)) (now (book .entry))) (length (now (blood .entry))) .state) ⌝ }

@@ -24,8 +24,7 @@ returns : tie.Need-returns
 returns c =
     let m = c .before .before in
     let a = m .before .before .before .before .before .args in
-    let e = m .month .ensures ∙ ap (λ (b : State). monthOf 6 b (filesOf (now (a .site)) (now (a .book)))) (m .before .state-of .ensures) in
-    (
+    let e = m .month .ensures ∙ ap (λ (b : State). monthOf 6 b (filesOf (now (a .site)) (now (a .book)))) (m .before .state-of .ensures) in (
       ap (λ (x : MonthAnswer). x .refusal) e,
       (c .words-of .ensures ∙ ap (λ (x : MonthAnswer). wordsOf (x .state)) e, ap (λ (x : MonthAnswer). x .blood) e),
     )

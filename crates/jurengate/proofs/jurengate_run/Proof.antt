@@ -18,8 +18,7 @@ same-length c = search needs
 
 returns : tie.Need-returns
 returns c =
-    let r = c .before .before .before .before .run .ensures in
-    (
+    let r = c .before .before .before .before .run .ensures in (
       ap (λ (x : RunAnswer). x .refusal) (r .0),
       (r .1, (c .words-of .ensures ∙ ap (λ (x : RunAnswer). wordsOf (x .state)) (r .0), ap (λ (x : RunAnswer). x .months) (r .0))),
     )
