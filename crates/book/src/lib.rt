@@ -13,13 +13,16 @@ pub mod table;
 const ROW_LIMIT: u32 = 8;
 
 // A book is blocks 0 to 16 of edition 1, with bytes used up to the end of a block's last row.
-const BOOK_BYTES: usize = 8_704;
+pub const BOOK_BYTES: usize = 8_704;
 
 const BOOK_BLOCKS: usize = 17;
 
 const BOOK_EDITION: u32 = 1;
 
 const BLOCK_USED: usize = 464;
+
+// D, the unit of the rates: a rate of D is the whole amount a step.
+pub const UNIT: u64 = 100_000_000;
 
 // Rows and numbers of a block.
 const BLOCK_ROWS: usize = 5;

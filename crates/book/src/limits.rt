@@ -2,6 +2,7 @@
 use super::BLOCK_ROWS;
 use super::Rates;
 use super::Row;
+use super::UNIT;
 use super::table;
 ghost use mathlib.Core.Path.{_≡_};
 ghost use Prim.Native.Nat.{_+_, _*_, _≤_, _<_};
@@ -23,13 +24,11 @@ const BODY_LEAST: u64 = 2_000;
 const WEIGHT_MOST: u64 = 50_000;
 
 // Limits of rates, in units of 1/D.
-const UNIT: u64 = 100_000_000;
-
 const RED_CELLS_LEAST: u64 = 1;
 
-const OUT_MOST: u64 = 6_400_000_000;
+const OUT_MOST: u64 = 64 * UNIT;
 
-const EXIT_MOST: u64 = 50_000_000;
+const EXIT_MOST: u64 = UNIT / 2;
 
 // Compartments beside plasma.
 const COMPARTMENTS: usize = 6;

@@ -1,4 +1,5 @@
 // Is what is handed in a state, and one that a month can follow? Any 64-bit numbers may stand in it.
+use super::BURDEN_MOST;
 use kinetics::State;
 ghost use mathlib.Core.Path.{_≡_};
 ghost use Prim.Native.Nat.{min};
@@ -12,8 +13,6 @@ const NO_STATE: u32 = 20;
 const LAST_MONTH_DONE: u32 = 21;
 
 const LAST_MONTH: u64 = 84;
-
-const BURDEN_MOST: u64 = 50_000_000_000; // pg
 
 const MONTH_MOST: u64 = 180_000_000_000; // pg, that a month can bring
 

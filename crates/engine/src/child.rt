@@ -1,4 +1,6 @@
 // A child of accepted files: its birth, and a month of it.
+use super::BURDEN_MOST;
+use super::BURDEN_TOO_LARGE;
 use super::BirthAnswer;
 use super::MonthAnswer;
 use super::check;
@@ -16,11 +18,6 @@ ghost use Rattle.engine.specs.Birth.{newborn, newbornRefusal, birthAnswe
 ghost use Rattle.engine.specs.Month.{refusedMonth, acceptedMonth};
 ghost use Rattle.kinetics.specs.Ready.{burdenLimit};
 ghost use Rattle.engine.specs.Ready.{Decoded, steppedMonth, monthFrom, childMonth};
-
-// Burden over its limit, at birth.
-const BURDEN_TOO_LARGE: u32 = 22;
-
-const BURDEN_MOST: u64 = 50_000_000_000; // pg
 
 const STEPS_A_DAY: u64 = 6;
 

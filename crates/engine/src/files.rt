@@ -1,15 +1,11 @@
 // Reading a call's files.
 use super::FilesRead;
+use block::WRONG_LENGTH;
+use book::BOOK_BYTES;
+use site::SITE_BYTES;
 ghost use mathlib.Core.Path.{_≡_};
 ghost use Rattle.engine.specs.Files.{lengthRefusal};
 ghost use Rattle.engine.specs.Ready.{filesOf, FilesDone};
-
-// A wrong length.
-const WRONG_LENGTH: u32 = 1;
-
-const SITE_BYTES: usize = 512;
-
-const BOOK_BYTES: usize = 8_704;
 
 // Refusal 1, or 0: the lengths of the site file and the book.
 pub fn length_refusal(site: &[u8], book: &[u8]) -> u32

@@ -17,6 +17,11 @@ mod steps; // steps.rt: the steps of a month
 // Blood list not 84 long.
 const BLOOD_LIST: u32 = 2;
 
+// Burden, with the step's uptake, over its limit.
+const BURDEN_TOO_LARGE: u32 = 22;
+
+const BURDEN_MOST: u64 = 50_000_000_000; // pg
+
 const MONTHS: usize = 84;
 
 // What birth answers: 0 and the newborn child, or a refusal and the all-zero state.

@@ -1,4 +1,6 @@
 // The steps of a month, up to the first that is refused.
+use super::BURDEN_MOST;
+use super::BURDEN_TOO_LARGE;
 use super::Reached;
 use book::Rates;
 use kinetics::Prepared;
@@ -6,11 +8,6 @@ use kinetics::State;
 ghost use Prim.Native.Nat.{_*_};
 ghost use Rattle.engine.specs.Steps.{dayShares, daysShares};
 ghost use Rattle.engine.specs.Ready.{Steppable, ReachedBy};
-
-// Burden plus uptake over its limit.
-const BURDEN_TOO_LARGE: u32 = 22;
-
-const BURDEN_MOST: u64 = 50_000_000_000; // pg
 
 const DAYS_A_MONTH: u64 = 30;
 

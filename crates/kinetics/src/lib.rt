@@ -5,9 +5,6 @@ pub mod birth; // birth.rt: the amounts at birth (B-7)
 pub mod blood; // blood.rt: the blood figure (B-9g, B-10)
 pub mod share; // share.rt: what each step of a day absorbs
 
-// D, the unit of the rates: a rate of D is the whole amount a step.
-pub const UNIT: u64 = 100_000_000;
-
 // A child. Lead and ledgers are in pg.
 pub struct State {
     pub month: u64,

@@ -6,8 +6,8 @@ ghost use Rattle.kinetics.specs.Step.{compartmentDivisor, retained};
 ghost use Rattle.numbers.specs.Bounds.{Is};
 ghost use Rattle.kinetics.specs.Ready.{Prepares};
 use super::Prepared;
-use super::UNIT;
 use book::Rates;
+use book::UNIT;
 
 // Ei; c is the rate out of the body from compartment i.
 fn divisor_at(rates: Rates, c: u64, i: usize) -> u64

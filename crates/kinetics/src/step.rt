@@ -7,8 +7,8 @@ ghost use Rattle.numbers.specs.Bounds.{Is};
 ghost use Rattle.kinetics.specs.Ready.{Ready, burdenLimit};
 use super::Prepared;
 use super::State;
-use super::UNIT;
 use book::Rates;
+use book::UNIT;
 
 // Point 1: what compartment i returns to the plasma.
 fn returned_at(rates: Rates, prepared: Prepared, state: State, u: u64, i: usize) -> u64

@@ -1,10 +1,16 @@
 // Prints the blood lead of a child, a line for each month, from site.lkb and book.lkb in the current folder.
 // A file that is missing or cannot be opened counts as empty. Where reading fails, what was read until then counts as the file.
 use libc::STDOUT_FILENO;
+use printout::LINE_BYTES;
 use printout::LINES;
 use printout::Prepared;
 ghost use Prim.Native.Nat.{_≤_};
 ghost use Rattle.io.specs.Counts.{Counts};
+
+// What is read of each file: a byte more than its format has, so that a longer file has a wrong length and is not read whole.
+const SITE_READ: usize = 513;
+
+const BOOK_READ: usize = 8_705;
 
 // Reads what the buffer holds of a file, and answers how many bytes came.
 fn read_file(path: &[u8], buffer: &mut [u8]) -> usize
@@ -23,7 +29,7 @@ fn read_file(path: &[u8], buffer: &mut [u8]) -> usize
 fn print_line(run: Prepared, k: u32) -> bool
     requires { ⌜ run .months ≤ 84 ⌝ }
 {
-    let mut line = [0u8; 36];
+    let mut line = [0u8; LINE_BYTES];
     let bytes = printout::line(run, k, &mut line);
     let is_written = io::write_all(STDOUT_FILENO, &line[..bytes]);
     if !is_written {
@@ -42,10 +48,9 @@ fn print_lines(run: Prepared)
     }
 }
 
-// Each buffer is a byte longer than its format, so that a longer file has a wrong length and is not read whole.
 fn main() {
-    let mut site = [0u8; 513];
-    let mut book = [0u8; 8705];
+    let mut site = [0u8; SITE_READ];
+    let mut book = [0u8; BOOK_READ];
     let site_bytes = read_file(b"site.lkb", &mut site);
     let book_bytes = read_file(b"book.lkb", &mut book);
     let run = printout::prepare(&site[..site_bytes], &book[..book_bytes]);

@@ -1,6 +1,6 @@
 -- The lines that document 01 shows.
 -- Assumes nothing.
-use mathlib.Core.Path.{refl, _∙_}
+use mathlib.Core.Path.{refl}
 use mathlib.Core.List.{[]}
 use native.Mathlib.Omega.{arith}
 use Rattle.printout.specs.Printout.{digitsWithin, figure, monthLine, refusedLine}

@@ -12,7 +12,8 @@ module _ {l a : List ℕ} {i e : ℕ} (blood : ℕ) where
   unfolding figure
   put-figure same f = put-as f (ap (λ (t : ℕ). decimal (t / 10) ++ (point ∷ digit (t % 10) ∷ [])) same) (f .small)
 
-  pub put-month : (month : ℕ) {mark : ℕ} → mark ≡ flag blood → Put l i (decimal month ++ (space ∷ (figure blood ++ (space ∷ mark ∷ lineFeed ∷ [])))) 26 a e
+  pub put-month : (month : ℕ) {mark : ℕ} → mark ≡ flag blood
+      → Put l i (decimal month ++ (space ∷ (figure blood ++ (space ∷ mark ∷ lineFeed ∷ [])))) 26 a e
       → Put l i (monthLine month blood) 26 a e
   unfolding monthLine
   put-month month same f =

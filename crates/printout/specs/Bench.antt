@@ -14,4 +14,5 @@ pub record Bench : Type 0 where
   pub down : monthLine 1 49 ≡ 49 ∷ 32 ∷ 48 ∷ 46 ∷ 48 ∷ 32 ∷ 45 ∷ 10 ∷ []
   pub up : monthLine 1 50 ≡ 49 ∷ 32 ∷ 48 ∷ 46 ∷ 49 ∷ 32 ∷ 45 ∷ 10 ∷ []
   -- an empty book prints just `refused 1 after 0`, whatever the site file
-  pub empty : (site : List ℕ) → printout (filesOf site []) ≡ 114 ∷ 101 ∷ 102 ∷ 117 ∷ 115 ∷ 101 ∷ 100 ∷ 32 ∷ 49 ∷ 32 ∷ 97 ∷ 102 ∷ 116 ∷ 101 ∷ 114 ∷ 32 ∷ 48 ∷ 10 ∷ []
+  pub empty : (site : List ℕ) → printout (filesOf site [])
+      ≡ 114 ∷ 101 ∷ 102 ∷ 117 ∷ 115 ∷ 101 ∷ 100 ∷ 32 ∷ 49 ∷ 32 ∷ 97 ∷ 102 ∷ 116 ∷ 101 ∷ 114 ∷ 32 ∷ 48 ∷ 10 ∷ []

@@ -8,7 +8,10 @@ ghost use Rattle.printout.specs.Lines.{preparedOf, lineAt};
 mod text; // text.rt: bytes, text and decimal numbers, put into a line
 mod lines; // lines.rt: a month's line and the last line
 
-// Bytes that every line fits in: the longest has two texts of 15 bytes, two numbers of ten digits and a line feed.
+// Months of a whole run.
+const MONTHS: usize = 84;
+
+// Bytes that every line fits in: the longest has 15 bytes of text, two numbers of ten digits and a line feed.
 pub const LINE_BYTES: usize = 36;
 
 // Lines of a printout at most: 84 months and the last line.
@@ -18,7 +21,7 @@ pub const LINES: u32 = 85;
 pub struct Prepared {
     pub refusal: u32,
     pub months: u32,
-    pub blood: [u32; 84], // thousandths of ug/dL, of the months done
+    pub blood: [u32; MONTHS], // thousandths of ug/dL, of the months done
 }
 
 // Runs the two files, of any length and content.
@@ -26,7 +29,7 @@ pub fn prepare(site: &[u8], book: &[u8]) -> Prepared
     ensures { λ r. ⌜ r ≡ preparedOf (filesOf (now (site .entry)) (now (book .entry))) ⌝ }
     ensures { λ r. ⌜ r .months ≤ 84 ⌝ }
 {
-    let mut blood = [0u32; 84];
+    let mut blood = [0u32; MONTHS];
     let answer = engine::run(site, book, &mut blood);
     Prepared {
         refusal: answer.refusal,
@@ -36,7 +39,7 @@ pub fn prepare(site: &[u8], book: &[u8]) -> Prepared
 }
 
 // Puts line k, from 0, at the start of the target, and answers its length: 0 past the last line.
-pub fn line(run: Prepared, k: u32, target: &mut [u8; 36]) -> usize
+pub fn line(run: Prepared, k: u32, target: &mut [u8; LINE_BYTES]) -> usize
     requires { ⌜ run .months ≤ 84 ⌝ }
     ensures { λ r. ⌜ Holds (lineAt run k) (now (target .exit)) r ⌝ }
 {

@@ -1,5 +1,4 @@
 // The site file: one block of 94 fields, read into a scenario or refused.
-use block::BLOCK_BYTES;
 use block::WRONG_LENGTH;
 ghost use mathlib.Core.Path.{_≡_};
 ghost use Rattle.site.specs.Scenario.{dustSourceOf, waterSourceOf, scenarioOf};
@@ -13,6 +12,8 @@ pub mod places;
 const FIELD_LIMIT: u32 = 7;
 
 // A site file is block 0 of edition 1, with bytes used up to the end of its last field.
+pub const SITE_BYTES: usize = 512;
+
 const SITE_NUMBER: u32 = 0;
 
 const SITE_EDITION: u32 = 1;
@@ -122,7 +123,7 @@ fn refused_with(refusal: u32) -> SiteRead
 pub fn read_site(site: &[u8]) -> SiteRead
     ensures { λ r. ⌜ r ≡ readSite (now (site .entry)) ⌝ }
 {
-    if site.len() != BLOCK_BYTES {
+    if site.len() != SITE_BYTES {
         return refused_with(WRONG_LENGTH);
     }
     let refusal = block::read::block_refusal(site, SITE_NUMBER, SITE_EDITION, SITE_USED);

@@ -23,7 +23,9 @@ same-length c = search needs
 
 returns : tie.Need-returns
 returns c =
-    put-figure (c .before .before .before .before .before .before .before .before .before .before .before .before .before .before .args .blood) (c .before .before .before .before .before .before .before .before .before .before .before .before .tenths-of .ensures) (put-then (c .before .before .before .before .before .before .before .before .before .before .put-decimal .ensures) (put-then (c .before .before .before .before .before .before .put-byte .ensures) (c .before .before .put-digit .ensures)))
+    let decimal = c .before .before .before .before .before .before .before .before .before .before in
+    put-figure (decimal .before .before .before .before .args .blood) (decimal .before .before .tenths-of .ensures)
+    (put-then (decimal .put-decimal .ensures) (put-then (c .before .before .before .before .before .before .put-byte .ensures) (c .before .before .put-digit .ensures)))
 
 pub put-figure-spec : {M : Type 1} → statement M
 put-figure-spec =

@@ -32,12 +32,16 @@ same-length c = search needs
 
 returns : tie.Need-returns
 returns c =
-    let a = c .before .before .before .before .before .before .before .before .before .before .before .before .before .before .before .before .before .before .before .before .before .before .before .before .before .before .args in
-    put-month (a .blood) (a .month) (c .before .before .before .before .before .before .before .flag-of .ensures)
-    (put-then (c .before .before .before .before .before .before .before .before .before .before .before .before .before .before .before .before .before .before .before .before .before .before .before .put-decimal .ensures)
-    (put-then (c .before .before .before .before .before .before .before .before .before .before .before .before .before .before .before .before .before .before .before .put-byte .ensures)
-    (put-then (c .before .before .before .before .before .before .before .before .before .before .before .before .before .before .before .put-figure .ensures)
-    (put-then (c .before .before .before .before .before .before .before .before .before .before .before .put-byte2 .ensures) (put-then (c .before .before .before .before .before .before .put-byte3 .ensures) (c .before .before .put-byte4 .ensures))))))
+    let flag = c .before .before .before .before .before .before .before in
+    let figure = flag .before .before .before .before .before .before .before .before in
+    let month = figure .before .before .before .before .before .before .before .before in
+    let a = month .before .before .before .args in
+    put-month (a .blood) (a .month) (flag .flag-of .ensures)
+    (put-then (month .put-decimal .ensures)
+    (put-then (figure .before .before .before .before .put-byte .ensures)
+    (put-then (figure .put-figure .ensures)
+    (put-then (flag .before .before .before .before .put-byte2 .ensures)
+    (put-then (c .before .before .before .before .before .before .put-byte3 .ensures) (c .before .before .put-byte4 .ensures))))))
 
 pub put-month-spec : {M : Type 1} → statement M
 put-month-spec =

@@ -33,9 +33,11 @@ same-length c = search needs
 returns : tie.Need-returns
 unfolding refusedLine
 returns c =
-    put-then (c .before .before .before .before .before .before .before .before .before .before .before .before .before .before .before .before .before .before .before .put-text .ensures)
-    (put-then (c .before .before .before .before .before .before .before .before .before .before .before .before .before .before .before .put-decimal .ensures)
-    (put-then (c .before .before .before .before .before .before .before .before .before .before .put-text2 .ensures) (put-then (c .before .before .before .before .before .before .put-decimal2 .ensures) (c .before .before .put-byte .ensures))))
+    let after = c .before .before .before .before .before .before .before .before .before .before in
+    let number = after .before .before .before .before .before in
+    put-then (number .before .before .before .before .put-text .ensures)
+    (put-then (number .put-decimal .ensures)
+    (put-then (after .put-text2 .ensures) (put-then (c .before .before .before .before .before .before .put-decimal2 .ensures) (c .before .before .put-byte .ensures))))
 
 pub put-refused-spec : {M : Type 1} → statement M
 put-refused-spec =

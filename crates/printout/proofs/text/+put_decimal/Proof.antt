@@ -85,8 +85,10 @@ put-decimal-returns-2 : (t : ℕ) → put-decimal-lts.Need-returns-2 (
   put-decimal.Post,
 ) (put-decimal-at t) put-decimal.Post
 put-decimal-returns-2 t c =
-    let start = c .before .before .before .before .before .before .before .before .before .before in
-    put-last (start .pre .1) (start .args .n) (start .fits .n .fits) (c .before .before .before .before .before .before .put-decimal .ensures) (c .before .before .before .before .before .before .before .before .if1 .left) (c .before .before .put-digit2 .ensures)
+    let front = c .before .before .before .before .before .before in
+    let test = front .before .before in
+    let start = test .before .before in
+    put-last (start .pre .1) (start .args .n) (start .fits .n .fits) (front .put-decimal .ensures) (test .if1 .left) (c .before .before .put-digit2 .ensures)
 
 pub +put-decimal-spec : {M : Type 1} → statement M
 +put-decimal-spec = close μ-put-decimal λ t. put-decimal-lts.spec (
