@@ -3,7 +3,7 @@
 use jurengate_model::book::{column, RowFields, BOOK_ROWS, ROW_FIELDS};
 use jurengate_model::cards::{book_file, curves, published, site_file};
 use jurengate_model::printout::printout;
-use jurengate_model::random::{book, damaged, fault, site, temper, Dice, Fault, Intake};
+use jurengate_model::random::{book, damaged, fault, row_faults, site, temper, Dice, Fault, Intake};
 use jurengate_model::site::{place, SATURATION_LEAST, SITE_FIELDS};
 use std::env;
 use std::fs;
@@ -106,7 +106,7 @@ fn the_mark_at_30000_and_30001() {
 #[test]
 fn every_refusal_number() {
     let mut dice = Dice::new(20);
-    let faults = [
+    let mut faults = vec![
         Fault::SiteCheck,
         Fault::SiteEdition,
         Fault::SiteNumber,
@@ -120,6 +120,7 @@ fn every_refusal_number() {
         Fault::BlockReserved(16),
         Fault::Intake(Intake::ConstantWater, 4),
     ];
+    faults.extend(row_faults().into_iter().map(|each| Fault::Row(60, each)));
     for each in faults {
         let (site, book) = damaged(&mut dice, &published::fields(), &curves::rows(), &[each]);
         let line = last_line(&compare("faults", Some(&site), Some(&book)));
