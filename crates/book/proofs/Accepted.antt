@@ -17,7 +17,8 @@ use Rattle.block.specs.Block.{fieldAt, blockRefusal, fieldsOf, blockAt}
 use Rattle.block.proofs.Sealed.{accepted-check}
 use Rattle.book.specs.declared.Rates.{Rates}
 use Rattle.book.specs.declared.Row.{Row}
-use Rattle.book.specs.Row.{unit, out, back, exit, rowNumbers, rowFrom, rowOf, volumesFit, weightsFit, returnsFit, ratesFit, rowFits, rowsFit, RateLimits, RowLimits}
+use Rattle.book.specs.Row.{unit, out, back, exit, rowNumbers, rowFrom, rowOf, volumesFit, weightsFit, returnsFit, ratesFit, rowFits, rowsFit}
+use Rattle.book.specs.Limits.{RateLimits, RowLimits}
 use Rattle.book.specs.Book.{blockNumbers, bookBlockRefusal, blocksRefusal, bookRefusal, numbersOf, bookTable}
 use Rattle.book.specs.Laws.{RowsWithin, RightChecks, WholeBook}
 use Rattle.book.proofs.Tests.{returnFits}

@@ -7,7 +7,8 @@ use native.Mathlib.Omega.{arith}
 use lib.ListN.{length, replicate}
 use borrow.Author.Tests.{eq-eqb, ne-eqb}
 use Rattle.numbers.proofs.Refusals.{orElse-last}
-use Rattle.book.specs.Book.{bookRefusal, blankTable, bookTable, BookDecoded}
+use Rattle.book.specs.Book.{bookRefusal, blankTable, bookTable}
+use Rattle.book.specs.Ready.{BookDecoded}
 
 module _ (book : List ℕ) where
   blank-beside : (r : ℕ) → bookRefusal book ≡ r → (r ≡ 0 → ⊥) → blankTable ≡ bookTable book

@@ -13,7 +13,8 @@ use Rattle.numbers.proofs.Every.{every-shift, tab-same, tab-append, length-tab}
 use Rattle.numbers.proofs.Refusals.{orElse-first, orElse-last}
 use Rattle.block.specs.Block.{fieldAt, blockRefusal, fieldsOf, blockAt}
 use Rattle.book.specs.Row.{rowNumbers, rowFrom, rowOf, rowFits, rowsFit}
-use Rattle.book.specs.Book.{blockNumbers, bookBlockRefusal, blocksRefusal, numbersOf, placed, BlockDecoded, BookDecoded}
+use Rattle.book.specs.Book.{blockNumbers, bookBlockRefusal, blocksRefusal, numbersOf}
+use Rattle.book.specs.Ready.{placed, BlockDecoded, BookDecoded}
 
 -- the part of the book that the code lends is the block
 pub lent-block : (book : List ℕ) (n : ℕ) → take (512 * n + 512 - 512 * n) (drop (512 * n) book) ≡ blockAt book n

@@ -10,7 +10,8 @@ use lib.Dec.{leb}
 use lib.ListN.{getD, List·getD-eq-default}
 use Rattle.numbers.proofs.Every.{length-tab, getD-tab}
 use Rattle.book.specs.declared.Rates.{Rates}
-use Rattle.book.specs.Row.{unit, out, back, exit, rowNumbers, rowOf, Rates32}
+use Rattle.book.specs.Row.{unit, out, back, exit, rowNumbers, rowOf}
+use Rattle.book.specs.Ready.{Rates32}
 
 -- what compartment i gives back and loses is at most D
 abbrev pub returnFits : Rates → ℕ → Bool

@@ -1,9 +1,8 @@
 -- The book reader: 17 blocks numbered 0 to 16, five month rows each, months 0 to 84; refusals 1, 3 to 6 and 8.
 -- Assumes nothing.
 use Prim.Native.Nat.{ℕ, zero, suc, _+_, _*_, _/_, _%_}
-use mathlib.Core.Path.{_≡_}
-use mathlib.Core.List.{List, [], _∷_, _++_}
-use lib.ListN.{length, take, drop, replicate}
+use mathlib.Core.List.{List, [], _∷_}
+use lib.ListN.{length, replicate}
 use lib.Dec.{eqb}
 use Rattle.numbers.specs.Choice.{unless, orElse, firstOf, tab}
 use Rattle.block.specs.Block.{fieldAt, fieldsAt, blockRefusal, fieldsOf, blockAt}
@@ -42,18 +41,3 @@ tableBeside (suc r) book = blankTable
 -- the table that reading a book leaves
 unfoldable pub bookTable : List ℕ → List ℕ
 bookTable book = tableBeside (bookRefusal book) book
-
--- a table with the 115 numbers of block n in their place
-unfoldable pub placed : ℕ → List ℕ → List ℕ → List ℕ
-placed n numbers table = take (115 * n) table ++ (numbers ++ drop 115 (drop (115 * n) table))
-
--- for the code's contracts: what decoding block n into a table leaves, and what decoding all blocks leaves
-pub record BlockDecoded (book : List ℕ) (n : ℕ) (before after : List ℕ) (r : ℕ) : Type 0 where
-  pub refusal : r ≡ bookBlockRefusal (blockAt book n) n
-  pub long : length after ≡ 1955
-  pub table : r ≡ 0 → after ≡ placed n (blockNumbers (blockAt book n)) before
-
-pub record BookDecoded (book after : List ℕ) (r : ℕ) : Type 0 where
-  pub refusal : r ≡ blocksRefusal book 0 17
-  pub long : length after ≡ 1955
-  pub table : r ≡ 0 → after ≡ numbersOf book

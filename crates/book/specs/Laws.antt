@@ -7,7 +7,8 @@ use Prim.Native.Nat.{ℕ, _+_, _*_, _≤_, _<_}
 use lib.ListN.{length, getD}
 use Rattle.block.specs.Block.{fieldAt, checkAt, checkOf, blockAt}
 use Rattle.block.specs.Writer.{written, bodyOf, BodyPasses}
-use Rattle.book.specs.Row.{rowOf, rowsFit, RowLimits}
+use Rattle.book.specs.Row.{rowOf, rowsFit}
+use Rattle.book.specs.Limits.{RowLimits}
 use Rattle.book.specs.Book.{blockNumbers, bookBlockRefusal, numbersOf, bookRefusal, bookTable}
 
 -- each row of an accepted book is within its limits

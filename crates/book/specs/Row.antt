@@ -1,6 +1,6 @@
 -- A month row of the rate book: its 23 fields and their limits (document 01, "Rate book").
 -- Assumes nothing.
-use Prim.Native.Nat.{ℕ, zero, suc, _+_, _*_, _/_, _≤_, _<_}
+use Prim.Native.Nat.{ℕ, zero, suc, _+_, _*_, _/_}
 use mathlib.Core.Bool.{Bool, _&&_}
 use mathlib.Core.List.{List, [], _∷_}
 use lib.ListN.{getD}
@@ -86,34 +86,3 @@ rowFits w = volumesFit w && (weightsFit w && ratesFit (w .rates))
 -- the five rows of a block are within their limits, from row m on
 unfoldable pub rowsFit : List ℕ → ℕ → Bool
 rowsFit table m = every (λ (row : ℕ). rowFits (rowOf table row)) m 5
-
--- rates that are 32-bit fields
-pub record Rates32 (r : Rates) : Type 0 where
-  pub out : (i : ℕ) → out r i < 4_294_967_296
-  pub urine : r .urine < 4_294_967_296
-  pub back : (i : ℕ) → back r i < 4_294_967_296
-  pub faeces : r .faeces < 4_294_967_296
-  pub skin : r .skin < 4_294_967_296
-
--- the limits of the rates that a step asks; a1 may be 0
-pub record RateLimits (r : Rates) : Type 0 where
-  pub total : sumTo 6 (out r) + r .urine ≤ 64 * unit
-  pub each : (i : ℕ) → i < 6 → back r i + exit r i ≤ unit
-  pub faeces : 2 * r .faeces ≤ unit
-  pub skin : 2 * r .skin ≤ unit
-
--- a row's limits, as an accepted book keeps them
-pub record RowLimits (w : Row) : Type 0 where
-  pub blood-least : 1_000 ≤ w .«blood_volume»
-  pub blood-most : w .«blood_volume» ≤ 60_000
-  pub plasma-least : 1 ≤ w .«plasma_volume»
-  pub plasma-most : w .«plasma_volume» < w .«blood_volume»
-  pub body-least : 2_000 ≤ w .«body_weight»
-  pub body-most : w .«body_weight» ≤ 50_000
-  pub kidney : w .kidney ≤ 50_000
-  pub liver : w .liver ≤ 50_000
-  pub other : w .other ≤ 50_000
-  pub trabecular : w .trabecular ≤ 50_000
-  pub cortical : w .cortical ≤ 50_000
-  pub red-cells : 1 ≤ out (w .rates) 0
-  pub rates : RateLimits (w .rates)

@@ -4,7 +4,8 @@ use block::WRONG_LENGTH;
 ghost use mathlib.Core.Path.{_≡_};
 ghost use Prim.Native.Nat.{_<_};
 ghost use lib.ListN.{length, replicate};
-ghost use Rattle.book.specs.Book.{blocksRefusal, numbersOf, bookRefusal, bookTable, BlockDecoded, BookDecoded};
+ghost use Rattle.book.specs.Book.{blocksRefusal, numbersOf, bookRefusal, bookTable};
+ghost use Rattle.book.specs.Ready.{BlockDecoded, BookDecoded};
 
 mod limits;
 pub mod table;

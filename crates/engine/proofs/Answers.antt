@@ -10,8 +10,7 @@ use Rattle.site.specs.declared.Scenario.{Scenario}
 use Rattle.site.specs.Site.{siteRefusal}
 use Rattle.book.specs.Book.{bookRefusal, bookTable}
 use Rattle.kinetics.specs.declared.State.{State}
-use Rattle.kinetics.specs.Step.{burden}
-use Rattle.kinetics.specs.Ready.{burdenLimit}
+use Rattle.kinetics.specs.Step.{burden, burdenLimit}
 use Rattle.engine.specs.declared.BirthAnswer.{BirthAnswer}
 use Rattle.engine.specs.Files.{Files, lengthRefusal, filesRefusal, scenarioIn}
 use Rattle.engine.specs.State.{zeroState}

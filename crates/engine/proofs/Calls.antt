@@ -8,7 +8,8 @@ use Rattle.numbers.specs.Choice.{orElse}
 use Rattle.numbers.proofs.Refusals.{orElse-first, orElse-last}
 use Rattle.site.specs.declared.Scenario.{Scenario}
 use Rattle.book.specs.declared.Row.{Row}
-use Rattle.book.specs.Row.{RowLimits, rowOf}
+use Rattle.book.specs.Row.{rowOf}
+use Rattle.book.specs.Limits.{RowLimits}
 use Rattle.uptake.specs.Intake.{intakeRefusal}
 use Rattle.kinetics.specs.declared.State.{State}
 use Rattle.kinetics.specs.declared.Prepared.{Prepared}
@@ -22,7 +23,7 @@ use Rattle.engine.specs.Birth.{newborn, newbornRefusal, birthRefusal, bi
 use Rattle.engine.specs.Month.{monthAfter, exposureIn, monthUptake, monthRates, monthShares, refusedMonth, acceptedMonth, monthAnswer, childRefusal, monthLast, monthRefusal, monthOf}
 use Rattle.site.specs.declared.Exposure.{Exposure}
 use Rattle.uptake.specs.Uptake.{dayUptake}
-use Rattle.uptake.specs.Ready.{Weights}
+use Rattle.uptake.specs.Laws.{Weights}
 use Rattle.engine.specs.Ready.{Decoded, Steppable, ReachedBy, steppedMonth, monthFrom, childMonth}
 use Rattle.engine.proofs.Passed.{passed-sound, passed-before}
 

@@ -8,17 +8,17 @@ use borrow.Author.Tests.{leb-true}
 use lib.ListN.{length}
 use lib.Dec.{leb}
 use Rattle.numbers.specs.Choice.{unless}
+use Rattle.numbers.specs.Lists.{totalOf}
 use Rattle.numbers.proofs.Refusals.{orElse-none, unless-none}
 use Rattle.book.specs.declared.Rates.{Rates}
-use Rattle.book.specs.Row.{RateLimits}
+use Rattle.book.specs.Limits.{RateLimits}
 use Rattle.kinetics.specs.declared.State.{State}
-use Rattle.kinetics.specs.Step.{burden, exits, exitSum, next}
-use Rattle.kinetics.specs.Ready.{burdenLimit}
-use Rattle.kinetics.specs.Laws.{Margin}
+use Rattle.kinetics.specs.Step.{burden, exits, exitSum, next, burdenLimit}
+use Rattle.kinetics.specs.Solution.{Margin}
 use Rattle.kinetics.proofs.StepLaws.{step-law}
-use Rattle.engine.specs.Steps.{lastFrom, stepsRefusal}
-use Rattle.engine.specs.Conservation.{Each, totalOf, Step, exitsOf, leaves, stepsFrom, Chain, Balanced}
-use Rattle.engine.proofs.Sums.{total-append, each-append}
+use Rattle.engine.specs.Steps.{Step, exitsOf, leaves, stepsFrom, lastFrom, stepsRefusal}
+use Rattle.engine.specs.Conservation.{Chain, Balanced}
+use Rattle.numbers.proofs.Lists.{total-append, each-append}
 use Rattle.engine.proofs.Shares.{sumOf}
 
 -- balances: no step, one step, and the steps of two balances
@@ -59,11 +59,6 @@ module _ (rates : State → Rates) where
   unfolding stepsFrom lastFrom
   steps-chain a [] = (refl, refl)
   steps-chain a (u ∷ us) = (refl, steps-chain (next (rates a) a u) us)
-
-  pub steps-rates : (a : State) (us : List ℕ) → Each (λ (x : Step). x .rates ≡ rates (x .before)) (stepsFrom rates a us)
-  unfolding stepsFrom
-  steps-rates a [] = tt
-  steps-rates a (u ∷ us) = (refl, steps-rates (next (rates a) a u) us)
 
   pub steps-count : (a : State) (us : List ℕ) → length (stepsFrom rates a us) ≡ length us
   unfolding stepsFrom

@@ -1,15 +1,17 @@
--- Demand 3, proved.
+-- Demand 3, proved; and no call after an accepted birth is refused with 20.
 -- Assumes nothing.
 use Prim.Native.Nat.{ℕ, zero, suc, _*_, _≤_, _<_}
 use mathlib.Core.Path.{_≡_, refl, _∙_, sym}
 use mathlib.Core.List.{List, [], _∷_, map}
 use native.Mathlib.Nat.{sub-zero, suc-sub-suc, le-of-suc-le-suc, not-suc-le-zero}
 use lib.ListN.{length, getD, take}
+use Rattle.numbers.specs.Lists.{Each, totalOf}
 use Rattle.kinetics.specs.declared.State.{State}
 use Rattle.engine.specs.Files.{Files}
 use Rattle.engine.specs.Birth.{birthOf}
 use Rattle.engine.specs.Month.{monthRefusal, monthOf}
-use Rattle.engine.specs.Conservation.{Each, totalOf, Month, dailyOf, stepsIn, keep, accepted, numbers, endsOf, between, Balanced, WholeMonth, Demand3}
+use Rattle.engine.specs.Conservation.{Month, dailyOf, stepsIn, keep, accepted, between, Balanced, WholeMonth, Demand3}
+use Rattle.engine.specs.Laws.{numbers, StateLaw}
 use Rattle.engine.proofs.Passed.{Sound}
 use Rattle.engine.proofs.Never20.{month-not-20}
 use Rattle.engine.proofs.Course.{stay, join}
@@ -29,18 +31,18 @@ whole s a (m ∷ ms) l = (l .1 .0 .whole, whole s (m .after) ms (l .1 .1))
 
 -- d is what the specification's lists answer past their end
 module _ (s : ℕ) (d : State) where
-  abbrev endAt : State → List Month → ℕ → State
-  endAt a ms i = getD (endsOf a ms) i d
+  abbrev endOr : State → List Month → ℕ → State
+  endOr a ms i = getD (a ∷ map (λ (m : Month). m .after) ms) i d
 
   starts : (a : State) (ms : List Month) → Linked s a ms → (i : ℕ) → i < length ms
-      → getD (map (λ (m : Month). m .before) ms) i d ≡ endAt a ms i
+      → getD (map (λ (m : Month). m .before) ms) i d ≡ endOr a ms i
   starts a [] l i h = absurd (not-suc-le-zero h)
   starts a (m ∷ ms) l zero h = l .0
   starts a (m ∷ ms) l (suc i) h = starts (m .after) ms (l .1 .1) i (le-of-suc-le-suc h)
 
   -- the first j months balance
   front : (a : State) (ms : List Month) → Linked s a ms → (j : ℕ) → j ≤ length ms
-      → Balanced a (endAt a ms j) (stepsIn s (take j ms)) (takenIn (take j ms))
+      → Balanced a (endOr a ms j) (stepsIn s (take j ms)) (takenIn (take j ms))
   front a ms l zero h = stay a
   front a [] l (suc j) h = absurd (not-suc-le-zero h)
   front a (m ∷ ms) l (suc j) h =
@@ -48,7 +50,7 @@ module _ (s : ℕ) (d : State) where
 
   -- the months between any two ends balance
   span : (a : State) (ms : List Month) → Linked s a ms → (i j : ℕ) → i ≤ j → j ≤ length ms
-      → Balanced (endAt a ms i) (endAt a ms j) (stepsIn s (between i j ms)) (takenIn (between i j ms))
+      → Balanced (endOr a ms i) (endOr a ms j) (stepsIn s (between i j ms)) (takenIn (between i j ms))
   span a ms l zero j h k = rw sub-zero (front a ms l j k)
   span a ms l (suc i) zero h k = absurd (not-suc-le-zero h)
   span a [] l (suc i) (suc j) h k = absurd (not-suc-le-zero k)
@@ -83,5 +85,7 @@ demand3 s pos birth born calls =
       whole = whole s a months l;
       starts = starts s a a months l;
       balance = span s a a months l;
-      no-20 = never-20 s pos a calls (birth-sound birth born);
     }
+
+pub state-law : StateLaw
+state-law s pos birth born calls = never-20 s pos (birthOf birth .state) calls (birth-sound birth born)

@@ -12,4 +12,3 @@ pub mod Passed
 pub mod Runs
 pub mod Shares
 pub mod StateCheck
-pub mod Sums

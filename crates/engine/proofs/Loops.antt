@@ -12,12 +12,12 @@ use Rattle.numbers.specs.Sums.{sumTo}
 use Rattle.numbers.proofs.Refusals.{orElse-first, orElse-assoc}
 use Rattle.numbers.proofs.Sums.{sum-next, sum-mono}
 use Rattle.book.specs.declared.Rates.{Rates}
-use Rattle.book.specs.Row.{RateLimits}
+use Rattle.book.specs.Limits.{RateLimits}
 use Rattle.kinetics.specs.declared.State.{State}
 use Rattle.kinetics.specs.declared.Prepared.{Prepared}
 use Rattle.kinetics.specs.Share.{shareOf}
-use Rattle.kinetics.specs.Step.{burden, next}
-use Rattle.kinetics.specs.Ready.{burdenLimit, Ready}
+use Rattle.kinetics.specs.Step.{burden, next, burdenLimit}
+use Rattle.kinetics.specs.Ready.{Ready}
 use Rattle.kinetics.proofs.DayShares.{share-law}
 use Rattle.kinetics.proofs.StepLaws.{step-law}
 use Rattle.engine.specs.declared.Reached.{Reached}

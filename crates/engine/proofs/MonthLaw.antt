@@ -10,24 +10,24 @@ use Rattle.numbers.proofs.Refusals.{firstOf-none, unless-none}
 use Rattle.site.specs.Scenario.{motherOf}
 use Rattle.book.specs.declared.Rates.{Rates}
 use Rattle.book.specs.declared.Row.{Row}
-use Rattle.book.specs.Row.{RateLimits, rowOf}
+use Rattle.book.specs.Row.{rowOf}
+use Rattle.book.specs.Limits.{RateLimits}
 use Rattle.uptake.specs.Age.{ageOf}
 use Rattle.uptake.specs.Intake.{intakeRefusal}
 use Rattle.uptake.proofs.Laws.{age-law, day-law}
 use Rattle.kinetics.specs.declared.State.{State}
-use Rattle.kinetics.specs.Step.{burden}
-use Rattle.kinetics.specs.Ready.{burdenLimit}
+use Rattle.kinetics.specs.Step.{burden, burdenLimit}
 use Rattle.kinetics.proofs.Newborn.{birth-law}
 use Rattle.engine.specs.Files.{Files, filesRefusal, scenarioIn, tableIn}
 use Rattle.engine.specs.State.{lastMonth, stateRefusal}
-use Rattle.engine.specs.Steps.{lastFrom, stepsRefusal}
+use Rattle.engine.specs.Steps.{stepsFrom, lastFrom, stepsRefusal}
 use Rattle.engine.specs.Birth.{newborn, newbornRefusal, birthRefusal, birthAnswer, birthOf}
 use Rattle.engine.specs.Month.{monthAfter, exposureIn, monthUptake, monthRates, monthShares, monthAnswer, childRefusal, monthLast, monthRefusal, monthOf}
-use Rattle.engine.specs.Conservation.{Month, Balanced, WholeMonth, dailyOf, stepsFrom, stepsOf}
+use Rattle.engine.specs.Conservation.{Month, Balanced, WholeMonth, dailyOf, stepsOf}
 use Rattle.engine.specs.Ready.{Decoded}
 use Rattle.engine.proofs.Shares.{days-total, days-length, sumOf}
 use Rattle.engine.proofs.Passed.{decoded, Sound, passed-sound, passed-before}
-use Rattle.engine.proofs.Course.{chain-to, steps-chain, steps-rates, steps-count, steps-uptake, steps-balance, steps-within}
+use Rattle.engine.proofs.Course.{chain-to, steps-chain, steps-count, steps-uptake, steps-balance, steps-within}
 
 -- the state that an accepted call answers, with the compartments and ledgers of the state that its steps left
 abbrev ended : State → State → State
@@ -122,7 +122,6 @@ module _ (s : ℕ) (pos : 0 < s) (a : State) (f : Files) (accepted : monthRefusa
         whole = record {
           number = refl;
           chain = chain-to a last (ended a last) (stepsFrom rates a uptakes) refl refl (steps-chain rates a uptakes);
-          rates = steps-rates rates a uptakes;
           count = steps-count rates a uptakes ∙ uptakes-count;
           uptake = steps-uptake rates a uptakes ∙ uptakes-total;
         };

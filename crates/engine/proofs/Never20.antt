@@ -18,8 +18,7 @@ use Rattle.book.specs.Row.{rowsFit}
 use Rattle.book.specs.Book.{blockNumbers, bookBlockRefusal, blocksRefusal, bookRefusal}
 use Rattle.uptake.specs.Intake.{airIntake, waterIntake, soilIntake, dustIntake, intakesOf, passes, refusalOf, intakeRefusal}
 use Rattle.kinetics.specs.declared.State.{State}
-use Rattle.kinetics.specs.Step.{burden, next}
-use Rattle.kinetics.specs.Ready.{burdenLimit}
+use Rattle.kinetics.specs.Step.{burden, next, burdenLimit}
 use Rattle.engine.specs.Files.{Files, filesRefusal}
 use Rattle.engine.specs.State.{lastMonth, stateRefusal}
 use Rattle.engine.specs.Steps.{stepsRefusal}

@@ -16,8 +16,7 @@ use Rattle.site.proofs.Accepted.{exposure-accepted, mother-accepted}
 use Rattle.book.specs.Book.{bookRefusal}
 use Rattle.book.proofs.Accepted.{rows-within}
 use Rattle.kinetics.specs.declared.State.{State}
-use Rattle.kinetics.specs.Step.{burden}
-use Rattle.kinetics.specs.Ready.{burdenLimit}
+use Rattle.kinetics.specs.Step.{burden, burdenLimit}
 use Rattle.engine.specs.Files.{Files, lengthRefusal, filesRefusal, scenarioIn, tableIn}
 use Rattle.engine.specs.State.{ledgerSum, lastMonth, monthLimit, isState, stateRefusal}
 use Rattle.engine.specs.Ready.{Decoded}

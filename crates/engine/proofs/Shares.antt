@@ -6,11 +6,11 @@ use mathlib.Core.List.{List}
 use native.Mathlib.Nat.{add-zero, mul-zero, zero-mul, suc-mul, zero-div, mul-div-cancel}
 use native.Mathlib.Omega.{arith}
 use lib.ListN.{length, length-append}
+use Rattle.numbers.specs.Lists.{totalOf}
 use Rattle.kinetics.specs.Share.{shareOf}
 use Rattle.kinetics.proofs.DayShares.{absorbed-mono, share-law}
 use Rattle.engine.specs.Steps.{sharesFrom, dayShares, daysShares}
-use Rattle.engine.specs.Conservation.{totalOf}
-use Rattle.engine.proofs.Sums.{total-append}
+use Rattle.numbers.proofs.Lists.{total-append}
 
 -- what a list of uptakes sums to
 abbrev pub sumOf : List ℕ → ℕ

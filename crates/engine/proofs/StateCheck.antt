@@ -10,8 +10,7 @@ use borrow.Author.Tests.{le-leb, lt-leb, eq-eqb, ne-eqb}
 use Rattle.numbers.specs.Sums.{sumTo}
 use Rattle.numbers.proofs.Sums.{sum-next}
 use Rattle.kinetics.specs.declared.State.{State}
-use Rattle.kinetics.specs.Step.{burden}
-use Rattle.kinetics.specs.Ready.{burdenLimit}
+use Rattle.kinetics.specs.Step.{burden, burdenLimit}
 use Rattle.engine.specs.State.{ledgerSum, lastMonth, monthLimit, isState, stateRefusal}
 use Rattle.engine.proofs.Passed.{sound-is-state}
 

@@ -9,8 +9,7 @@ use Rattle.site.specs.Scenario.{motherOf}
 use Rattle.book.specs.Row.{rowOf}
 use Rattle.kinetics.specs.declared.State.{State}
 use Rattle.kinetics.specs.Birth.{birthState}
-use Rattle.kinetics.specs.Step.{burden}
-use Rattle.kinetics.specs.Ready.{burdenLimit}
+use Rattle.kinetics.specs.Step.{burden, burdenLimit}
 use Rattle.engine.specs.declared.BirthAnswer.{BirthAnswer}
 use Rattle.engine.specs.Files.{Files, filesRefusal, scenarioIn, tableIn}
 use Rattle.engine.specs.State.{zeroState}

@@ -15,6 +15,9 @@ pub record Files : Type 0 where
   pub site : List ℕ
   pub book : List ℕ
 
+abbrev pub filesOf : List ℕ → List ℕ → Files
+filesOf site book = record { site = site; book = book }
+
 -- 1: a wrong length, of the site file or of the book
 abbrev pub lengthRefusal : Files → ℕ
 lengthRefusal f = unless (eqb (length (f .site)) 512 && eqb (length (f .book)) 8704) 1

@@ -6,5 +6,6 @@ pub mod Birth
 pub mod Month
 pub mod Run
 pub mod Conservation
+pub mod Laws
 pub mod Bench
 pub mod Ready

@@ -1,16 +1,18 @@
--- What the parts of a call ask of each other.
+-- For the contracts between the functions: what the parts of a call ask of each other and promise. No open call's contract needs it.
 -- Assumes nothing.
 use mathlib.Core.Path.{_≡_}
 use Prim.Native.Nat.{ℕ, _^_, _+_, _≤_, _<_}
 use mathlib.Core.List.{List}
 use Rattle.site.specs.declared.Scenario.{Scenario}
-use Rattle.site.specs.Scenario.{exposureAt, motherOf, ExposureLimits}
+use Rattle.site.specs.Scenario.{exposureAt, motherOf}
+use Rattle.site.specs.Limits.{ExposureLimits}
 use Rattle.book.specs.declared.Rates.{Rates}
-use Rattle.book.specs.Row.{rowOf, RateLimits, RowLimits}
+use Rattle.book.specs.Row.{rowOf}
+use Rattle.book.specs.Limits.{RateLimits, RowLimits}
 use Rattle.kinetics.specs.declared.State.{State}
 use Rattle.kinetics.specs.declared.Prepared.{Prepared}
-use Rattle.kinetics.specs.Step.{burden}
-use Rattle.kinetics.specs.Ready.{burdenLimit, Prepares}
+use Rattle.kinetics.specs.Step.{burden, burdenLimit}
+use Rattle.kinetics.specs.Ready.{Prepares}
 use Rattle.engine.specs.declared.Reached.{Reached}
 use Rattle.engine.specs.declared.RunAnswer.{RunAnswer}
 use Rattle.engine.specs.State.{ledgerSum, lastMonth, zeroState}
@@ -46,10 +48,6 @@ pub record ReachedBy (r : Rates) (a : State) (us : List ℕ) (t : ℕ) (x : Reac
   pub reached : x .refusal ≡ 0 → x .state ≡ lastFrom (λ b. r) a us
   pub held : x .refusal ≡ 0 → burden (x .state .lead) ≤ burdenLimit
   pub total : x .refusal ≡ 0 → burden (x .state .lead) + ledgerSum (x .state) ≡ burden (a .lead) + ledgerSum a + t
-
--- a call's two files
-abbrev pub filesOf : List ℕ → List ℕ → Files
-filesOf site book = record { site = site; book = book }
 
 -- what reading a call's files came to
 pub record FilesDone (f : Files) (table : List ℕ) (r : FilesRead) : Type 0 where

@@ -6,8 +6,7 @@ use mathlib.Core.List.{[], _∷_}
 use lib.Dec.{leb, eqb}
 use Rattle.numbers.specs.Choice.{unless, firstOf}
 use Rattle.kinetics.specs.declared.State.{State}
-use Rattle.kinetics.specs.Step.{burden, urineLedger, faecesLedger, skinLedger}
-use Rattle.kinetics.specs.Ready.{burdenLimit}
+use Rattle.kinetics.specs.Step.{burden, urineLedger, faecesLedger, skinLedger, burdenLimit}
 
 -- what the three ledgers hold together
 abbrev pub ledgerSum : State → ℕ

@@ -7,8 +7,7 @@ use Rattle.numbers.specs.Choice.{unless, orElse}
 use Rattle.book.specs.declared.Rates.{Rates}
 use Rattle.kinetics.specs.declared.State.{State}
 use Rattle.kinetics.specs.Share.{shareOf}
-use Rattle.kinetics.specs.Step.{burden, next}
-use Rattle.kinetics.specs.Ready.{burdenLimit}
+use Rattle.kinetics.specs.Step.{burden, burdenLimit, Exits, exits, next}
 
 -- what n steps absorb of a day's uptake T, from step k on
 unfoldable pub sharesFrom : ℕ → ℕ → ℕ → ℕ → List ℕ
@@ -23,7 +22,24 @@ unfoldable pub daysShares : ℕ → ℕ → ℕ → List ℕ
 daysShares s T zero = []
 daysShares s T (suc n) = dayShares s T ++ daysShares s T n
 
--- the state after steps from a that absorb us; each step has the rates that the state before it gives
+-- a step: the state before it, its rates, its uptake U; then its exits, and the state that it leaves
+pub record Step : Type 0 where
+  pub before : State
+  pub rates : Rates
+  pub uptake : ℕ
+
+abbrev pub exitsOf : Step → Exits
+exitsOf x = exits (x .rates) (x .before .lead) (x .uptake)
+
+abbrev pub leaves : Step → State
+leaves x = next (x .rates) (x .before) (x .uptake)
+
+-- the steps from a that absorb us, one after the other; each has the rates that the state before it gives
+unfoldable pub stepsFrom : (State → Rates) → State → List ℕ → List Step
+stepsFrom rates a [] = []
+stepsFrom rates a (u ∷ us) = record { before = a; rates = rates a; uptake = u } ∷ stepsFrom rates (next (rates a) a u) us
+
+-- the state after these steps
 unfoldable pub lastFrom : (State → Rates) → State → List ℕ → State
 lastFrom rates a [] = a
 lastFrom rates a (u ∷ us) = lastFrom rates (next (rates a) a u) us

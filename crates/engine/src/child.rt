@@ -11,12 +11,11 @@ use site::Scenario;
 ghost use mathlib.Core.Path.{_≡_};
 ghost use Prim.Native.Nat.{_≤_, _<_};
 ghost use lib.ListN.{length};
-ghost use Rattle.book.specs.Row.{RowLimits};
-ghost use Rattle.kinetics.specs.Step.{burden};
+ghost use Rattle.book.specs.Limits.{RowLimits};
+ghost use Rattle.kinetics.specs.Step.{burden, burdenLimit};
 ghost use Rattle.engine.specs.State.{zeroState, stateRefusal};
 ghost use Rattle.engine.specs.Birth.{newborn, newbornRefusal, birthAnswer};
 ghost use Rattle.engine.specs.Month.{refusedMonth, acceptedMonth};
-ghost use Rattle.kinetics.specs.Ready.{burdenLimit};
 ghost use Rattle.engine.specs.Ready.{Decoded, steppedMonth, monthFrom, childMonth};
 
 const STEPS_A_DAY: u64 = 6;

@@ -4,8 +4,8 @@ use block::WRONG_LENGTH;
 use book::BOOK_BYTES;
 use site::SITE_BYTES;
 ghost use mathlib.Core.Path.{_≡_};
-ghost use Rattle.engine.specs.Files.{lengthRefusal};
-ghost use Rattle.engine.specs.Ready.{filesOf, FilesDone};
+ghost use Rattle.engine.specs.Files.{lengthRefusal, filesOf};
+ghost use Rattle.engine.specs.Ready.{FilesDone};
 
 // Refusal 1, or 0: the lengths of the site file and the book.
 pub fn length_refusal(site: &[u8], book: &[u8]) -> u32

@@ -5,7 +5,8 @@ ghost use mathlib.Core.Path.{_≡_};
 ghost use lib.ListN.{length};
 ghost use Rattle.engine.specs.Birth.{birthOf};
 ghost use Rattle.engine.specs.Month.{monthOf};
-ghost use Rattle.engine.specs.Ready.{filesOf, refusedRun};
+ghost use Rattle.engine.specs.Ready.{refusedRun};
+ghost use Rattle.engine.specs.Files.{filesOf};
 ghost use Rattle.engine.specs.Run.{runOf, runAnswer, runList};
 
 mod check; // check.rt: refusals 20 and 21

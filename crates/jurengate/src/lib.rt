@@ -7,7 +7,7 @@ ghost use Rattle.site.specs.Site.{readSite};
 ghost use Rattle.engine.specs.Birth.{birthOf};
 ghost use Rattle.engine.specs.Month.{monthOf};
 ghost use Rattle.engine.specs.Run.{runOf, runAnswer, runList};
-ghost use Rattle.engine.specs.Ready.{filesOf};
+ghost use Rattle.engine.specs.Files.{filesOf};
 ghost use Rattle.jurengate.specs.Words.{wordsOf, stateOf};
 
 fn words_of(state: State) -> [u64; 11]

@@ -8,13 +8,14 @@ use native.Mathlib.Omega.{arith}
 use lib.ListN.{getD}
 use Rattle.numbers.proofs.Sums.{sum-le, sum-has}
 use Rattle.book.specs.declared.Rates.{Rates}
-use Rattle.book.specs.Row.{unit, out, back, RateLimits}
+use Rattle.book.specs.Row.{unit, out, back}
+use Rattle.book.specs.Limits.{RateLimits}
 use Rattle.kinetics.specs.declared.State.{State}
 use Rattle.kinetics.specs.declared.Prepared.{Prepared}
-use Rattle.kinetics.specs.Step.{amount, compartmentDivisor, returned, retained, inflow, divisor, solvedPlasma, newAmount}
+use Rattle.kinetics.specs.Step.{amount, compartmentDivisor, returned, retained, inflow, divisor, solvedPlasma, newAmount, burdenLimit}
 use Rattle.numbers.specs.Bounds.{Is}
 use Rattle.numbers.proofs.Bounds.{is}
-use Rattle.kinetics.specs.Ready.{burdenLimit, Ready}
+use Rattle.kinetics.specs.Ready.{Ready}
 use Rattle.kinetics.proofs.Divisors.{part-le, compartmentDivisor-pos, back-le, retained-eq, divisor-pos}
 
 half-le : (a b : ℕ) {e : ℕ} → 2 * b ≤ e → 0 < e → 2 * (a * b / e) ≤ a

@@ -7,7 +7,8 @@ use native.Mathlib.Omega.{arith}
 use Rattle.numbers.specs.Sums.{sumTo}
 use Rattle.numbers.proofs.Sums.{weighted, prod-pos, weighted-add, weighted-is, part-whole, weigh-above, weigh-own, weigh-over}
 use Rattle.book.specs.declared.Rates.{Rates}
-use Rattle.book.specs.Row.{unit, out, back, exit, RateLimits}
+use Rattle.book.specs.Row.{unit, out, back, exit}
+use Rattle.book.specs.Limits.{RateLimits}
 use Rattle.kinetics.specs.Step.{compartmentDivisor, retained, divisor}
 use Rattle.kinetics.specs.Solution.{product, productOver, denominator}
 use Rattle.kinetics.specs.Laws.{SolutionLaws}

@@ -6,10 +6,9 @@ use native.Mathlib.Nat.{mul-le-mul, mul-le-mul-left, div-mul-le-self}
 use native.Mathlib.Omega.{arith}
 use Rattle.numbers.specs.Sums.{sumTo}
 use Rattle.book.specs.declared.Row.{Row}
-use Rattle.book.specs.Row.{RowLimits}
-use Rattle.kinetics.specs.Step.{plasma, amount, burden}
+use Rattle.book.specs.Limits.{RowLimits}
+use Rattle.kinetics.specs.Step.{plasma, amount, burden, burdenLimit}
 use Rattle.kinetics.specs.Blood.{plasmaPart, bloodOf}
-use Rattle.kinetics.specs.Ready.{burdenLimit}
 use Rattle.kinetics.specs.Laws.{BloodLaw}
 use Rattle.kinetics.proofs.Divisors.{part-le}
 

@@ -8,7 +8,8 @@ use native.Mathlib.Omega.{arith}
 use Rattle.numbers.specs.Sums.{sumTo}
 use Rattle.numbers.proofs.Sums.{weigh-above}
 use Rattle.book.specs.declared.Rates.{Rates}
-use Rattle.book.specs.Row.{unit, out, RateLimits}
+use Rattle.book.specs.Row.{unit, out}
+use Rattle.book.specs.Limits.{RateLimits}
 use Rattle.kinetics.specs.Step.{plasma, amount, compartmentDivisor, solvedPlasma, newAmount, newPlasma}
 use Rattle.kinetics.specs.Solution.{product, denominator, numerator}
 use Rattle.kinetics.proofs.Divisors.{lessBack, netOut, compartmentDivisor-pos, denominator-rest, denominator-rest-le}

@@ -7,7 +7,8 @@ use native.Mathlib.Nat.{le-trans, le-of-eq, mul-le-mul, mul-le-mul-left, add-sub
 use native.Mathlib.Omega.{arith}
 use Rattle.numbers.specs.Sums.{sumTo}
 use Rattle.book.specs.declared.Row.{Row}
-use Rattle.book.specs.Row.{unit, out, back, RowLimits}
+use Rattle.book.specs.Row.{unit, out, back}
+use Rattle.book.specs.Limits.{RowLimits}
 use Rattle.kinetics.specs.declared.State.{State}
 use Rattle.kinetics.specs.Step.{burden}
 use Rattle.kinetics.specs.Birth.{birthBlood, birthTotal, birthPlasma, birthRedCells, birthOrgan, birthLead, birthState}

@@ -1,20 +1,20 @@
 -- The laws of the exact solution, a step, birth, the blood figure and a day's shares.
 -- Assumes nothing.
 use mathlib.Core.Path.{_≡_}
-use Prim.Native.Nat.{ℕ, _+_, _-_, _*_, _≤_, _<_}
+use Prim.Native.Nat.{ℕ, _+_, _*_, _≤_, _<_}
 use mathlib.Core.List.{List, [], _∷_}
 use lib.ListN.{length, getD}
 use Rattle.numbers.specs.Sums.{sumTo}
 use Rattle.book.specs.declared.Rates.{Rates}
 use Rattle.book.specs.declared.Row.{Row}
-use Rattle.book.specs.Row.{unit, out, back, RateLimits, RowLimits}
+use Rattle.book.specs.Row.{unit, out, back}
+use Rattle.book.specs.Limits.{RateLimits, RowLimits}
 use Rattle.kinetics.specs.declared.State.{State}
-use Rattle.kinetics.specs.Step.{plasma, amount, burden, compartmentDivisor, solvedPlasma, newAmount, exits, exitSum, nextLead, urineLedger, faecesLedger, skinLedger, next}
-use Rattle.kinetics.specs.Solution.{product, productOver, denominator, numerator}
+use Rattle.kinetics.specs.Step.{plasma, amount, burden, compartmentDivisor, solvedPlasma, newAmount, exits, exitSum, nextLead, urineLedger, faecesLedger, skinLedger, next, burdenLimit}
+use Rattle.kinetics.specs.Solution.{product, productOver, denominator, Margin}
 use Rattle.kinetics.specs.Birth.{birthTotal, birthLead, birthState}
 use Rattle.kinetics.specs.Blood.{bloodOf}
 use Rattle.kinetics.specs.Share.{shareOf}
-use Rattle.kinetics.specs.Ready.{burdenLimit}
 
 -- the exact solution is a fraction: each F/Ei is whole, Q's subtraction is not cut off at 0, and Q is positive
 pub record SolutionLaw (r : Rates) : Type 0 where
@@ -24,12 +24,6 @@ pub record SolutionLaw (r : Rates) : Type 0 where
 
 abbrev pub SolutionLaws : Type 0
 SolutionLaws = (r : Rates) → SolutionLaw r
-
--- new P of the step from `lead` against the exact solution's N/Q (demand 3)
-pub record Margin (r : Rates) (lead : List ℕ) (u : ℕ) : Type 0 where
-  pub least : numerator r (plasma lead) (amount lead) u ≤ plasma (nextLead r lead u) * denominator r
-  pub most : unit * (plasma (nextLead r lead u) * denominator r - numerator r (plasma lead) (amount lead) u)
-      < 459 * unit * denominator r + 384 * numerator r (plasma lead) (amount lead) u
 
 -- the step on the seven compartments: point 4's subtraction is not cut off at 0, no lead is lost or made, and new P is within its margin
 pub record LeadLaw (r : Rates) (lead : List ℕ) (u : ℕ) : Type 0 where

@@ -1,17 +1,13 @@
--- What the calls ask of their callers, and what they promise each other.
+-- For the contracts between the functions: what they ask of their callers, and what they promise each other. No open call's contract needs it.
 -- Assumes nothing.
 use mathlib.Core.Path.{_≡_}
 use Prim.Native.Nat.{ℕ, _^_, _+_, _≤_, _<_}
 use lib.ListN.{getD}
 use Rattle.book.specs.declared.Rates.{Rates}
-use Rattle.book.specs.Row.{RateLimits}
+use Rattle.book.specs.Limits.{RateLimits}
 use Rattle.kinetics.specs.declared.State.{State}
 use Rattle.kinetics.specs.declared.Prepared.{Prepared}
-use Rattle.kinetics.specs.Step.{burden, compartmentDivisor, retained, divisor, urineLedger, faecesLedger, skinLedger}
-
--- the most lead that a child may have, with the step's uptake: 5 × 10^10 pg (refusals 20 and 22)
-abbrev pub burdenLimit : ℕ
-burdenLimit = 50_000_000_000
+use Rattle.kinetics.specs.Step.{burden, burdenLimit, compartmentDivisor, retained, divisor, urineLedger, faecesLedger, skinLedger}
 
 -- q is what the rates come to: the six Ei, d without its red-cell term, and d
 pub record Prepares (r : Rates) (q : Prepared) : Type 0 where

@@ -19,6 +19,10 @@ amount lead i = getD lead (i + 1) 0
 abbrev pub burden : List ℕ → ℕ
 burden lead = plasma lead + sumTo 6 (amount lead)
 
+-- the most lead that a child may have, with the step's uptake: 5 × 10^10 pg (refusals 20 and 22)
+abbrev pub burdenLimit : ℕ
+burdenLimit = 50_000_000_000
+
 -- the two compartments that have an exit
 abbrev pub liver : ℕ
 liver = 1

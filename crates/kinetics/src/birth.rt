@@ -1,7 +1,7 @@
 // A child at birth (B-7).
 ghost use mathlib.Core.Path.{_≡_};
 ghost use Prim.Native.Nat.{_≤_};
-ghost use Rattle.book.specs.Row.{RowLimits};
+ghost use Rattle.book.specs.Limits.{RowLimits};
 ghost use Rattle.kinetics.specs.Birth.{birthBlood, birthOrgan, birthState};
 ghost use Rattle.numbers.specs.Bounds.{Is};
 use super::State;

@@ -1,11 +1,10 @@
 // The blood figure at a month's end (B-9g, B-10).
 ghost use mathlib.Core.Path.{_≡_};
 ghost use Prim.Native.Nat.{_≤_};
-ghost use Rattle.book.specs.Row.{RowLimits};
-ghost use Rattle.kinetics.specs.Step.{burden};
+ghost use Rattle.book.specs.Limits.{RowLimits};
+ghost use Rattle.kinetics.specs.Step.{burden, burdenLimit};
 ghost use Rattle.kinetics.specs.Blood.{bloodOf};
 ghost use Rattle.numbers.specs.Bounds.{Is};
-ghost use Rattle.kinetics.specs.Ready.{burdenLimit};
 use super::State;
 use book::Row;
 

@@ -1,7 +1,8 @@
 // What a month's steps share: the divisors E1 to E6, and d (point 1 of "One step").
 ghost use mathlib.Core.Path.{_≡_};
 ghost use Prim.Native.Nat.{_<_};
-ghost use Rattle.book.specs.Row.{exit, RateLimits};
+ghost use Rattle.book.specs.Row.{exit};
+ghost use Rattle.book.specs.Limits.{RateLimits};
 ghost use Rattle.kinetics.specs.Step.{compartmentDivisor, retained};
 ghost use Rattle.numbers.specs.Bounds.{Is};
 ghost use Rattle.kinetics.specs.Ready.{Prepares};

@@ -2,9 +2,9 @@
 ghost use mathlib.Core.Path.{_≡_};
 ghost use Prim.Native.Nat.{_+_, _*_, _/_, _≤_, _<_};
 ghost use Rattle.book.specs.Row.{unit};
-ghost use Rattle.kinetics.specs.Step.{burden, returned, inflow, solvedPlasma, newAmount, next};
+ghost use Rattle.kinetics.specs.Step.{burden, returned, inflow, solvedPlasma, newAmount, next, burdenLimit};
 ghost use Rattle.numbers.specs.Bounds.{Is};
-ghost use Rattle.kinetics.specs.Ready.{Ready, burdenLimit};
+ghost use Rattle.kinetics.specs.Ready.{Ready};
 use super::Prepared;
 use super::State;
 use book::Rates;

@@ -1,4 +1,5 @@
 pub mod Bounds
 pub mod Every
+pub mod Lists
 pub mod Refusals
 pub mod Sums

@@ -11,9 +11,8 @@ use lib.Dec.{eqb}
 use lib.ListN.{length, take}
 use lib.Seq.{length-take-le, take-all}
 use Rattle.numbers.specs.Choice.{unless}
-use Rattle.engine.specs.Files.{Files, lengthRefusal}
+use Rattle.engine.specs.Files.{Files, lengthRefusal, filesOf}
 use Rattle.engine.specs.Run.{startRefusal, runOf}
-use Rattle.engine.specs.Ready.{filesOf}
 use Rattle.printout.specs.Printout.{monthLines, refusedLine, printoutOf, printout}
 use Rattle.printout.specs.Laws.{FirstBytesLaw}
 

@@ -4,9 +4,8 @@ use mathlib.Core.Path.{_≡_}
 use Prim.Native.Nat.{ℕ, suc, _+_, _-_, _*_, _^_, _<_}
 use mathlib.Core.List.{List, [], _∷_}
 use lib.ListN.{take}
-use Rattle.engine.specs.Files.{Files}
+use Rattle.engine.specs.Files.{Files, filesOf}
 use Rattle.engine.specs.State.{lastMonth}
-use Rattle.engine.specs.Ready.{filesOf}
 use Rattle.printout.specs.Printout.{decimal, printout}
 use Rattle.printout.specs.Lines.{preparedOf, lineAt, linesFrom}
 

@@ -1,7 +1,7 @@
 // What leadline prints, a line at a time, from the bytes of its two files. Reading files and writing bytes is left to the program.
 ghost use mathlib.Core.Path.{_≡_};
 ghost use Prim.Native.Nat.{_≤_};
-ghost use Rattle.engine.specs.Ready.{filesOf};
+ghost use Rattle.engine.specs.Files.{filesOf};
 ghost use Rattle.printout.specs.Text.{Holds};
 ghost use Rattle.printout.specs.Lines.{preparedOf, lineAt};
 

@@ -15,8 +15,9 @@ use Rattle.numbers.proofs.Refusals.{firstOf-none, unless-none}
 use Rattle.block.specs.Block.{blockRefusal}
 use Rattle.block.proofs.Sealed.{accepted-check}
 use Rattle.site.specs.declared.Scenario.{Scenario}
-use Rattle.site.specs.Fields.{at, limits, airAt, hoursOutAt, breathingAt, airAbsorptionAt, dietAt, waterAt, soilAt, dustAt, eatenAt, alternateAt, absorbedAt, passiveAt, firstDrawShareAt, fountainShareAt, saturationAt, withinLimits, saturated, sharesFit, fieldsFit}
-use Rattle.site.specs.Scenario.{percentagesFrom, scenarioOf, exposureAt, ExposureLimits}
+use Rattle.site.specs.Fields.{at, limits, single, withinLimits, saturated, sharesFit, fieldsFit}
+use Rattle.site.specs.Scenario.{percentagesFrom, scenarioOf, exposureAt}
+use Rattle.site.specs.Limits.{ExposureLimits}
 use Rattle.site.specs.Site.{siteFields, siteRefusal, refusedWith, accepted, answerOf, readSite}
 use Rattle.site.specs.Laws.{ExposureWithin, MotherWithin, RightCheck}
 use Rattle.site.proofs.Tests.{fieldWithin}
@@ -33,27 +34,35 @@ module _ (fields : List ℕ) (fit : fieldsFit fields ≡ true) where
   unfolding fieldsFit
   rules = and-right (withinLimits fields) (saturated fields && sharesFit fields) fit
 
-  saturation-ge : 1_000_000 ≤ at fields saturationAt
-  saturation-ge = leb-true 1_000_000 (at fields saturationAt) (and-left (saturated fields) (sharesFit fields) rules)
+  saturation-ge : 1_000_000 ≤ single fields 22
+  saturation-ge = leb-true 1_000_000 (single fields 22) (and-left (saturated fields) (sharesFit fields) rules)
 
-  shares-le : at fields firstDrawShareAt + at fields fountainShareAt ≤ 100
-  shares-le = leb-true (at fields firstDrawShareAt + at fields fountainShareAt) 100 (and-right (saturated fields) (sharesFit fields) rules)
+  shares-le : single fields 10 + single fields 11 ≤ 100
+  shares-le = leb-true (single fields 10 + single fields 11) 100 (and-right (saturated fields) (sharesFit fields) rules)
+
+  -- a field in a range of places whose limits are at most v, a test that is computed
+  range-le : (v from n : ℕ) → every (λ (place : ℕ). leb (at limits place) v) from n ≡ true → from + n ≤ 94
+      → (place : ℕ) → from ≤ place → place < from + n → at fields place ≤ v
+  range-le v from n e room place a b =
+      le-trans (field-le place (omega arith))
+      (leb-true (at limits place) v (every-at (λ (p : ℕ). leb (at limits p) v) from n e place a b))
 
   -- a field that each age has, by the limit of its group
   group-le : (group v : ℕ) → every (λ (place : ℕ). leb (at limits place) v) group 7 ≡ true → group + 7 ≤ 94 → (age : ℕ) → age ≤ 6 → at fields (group + age) ≤ v
-  group-le group v e room age h =
-      le-trans (field-le (group + age) (omega arith))
-      (leb-true (at limits (group + age)) v (every-at (λ (place : ℕ). leb (at limits place) v) group 7 e (group + age) (omega arith) (omega arith)))
+  group-le group v e room age h = range-le v group 7 e room (group + age) (omega arith) (omega arith)
 
-  -- the five percentages from a place
-  percentage-le : (from : ℕ) → at limits from ≤ 100 → at limits (from + 1) ≤ 100 → at limits (from + 2) ≤ 100 → at limits (from + 3) ≤ 100
-      → at limits (from + 4) ≤ 100 → from + 4 < 94 → (medium : ℕ) → medium < 5 → getD (percentagesFrom fields from) medium 0 ≤ 100
-  percentage-le from a b c d e h zero l = le-trans (field-le from (omega arith)) a
-  percentage-le from a b c d e h (suc zero) l = le-trans (field-le (from + 1) (omega arith)) b
-  percentage-le from a b c d e h (suc (suc zero)) l = le-trans (field-le (from + 2) (omega arith)) c
-  percentage-le from a b c d e h (suc (suc (suc zero))) l = le-trans (field-le (from + 3) (omega arith)) d
-  percentage-le from a b c d e h (suc (suc (suc (suc zero)))) l = le-trans (field-le (from + 4) (omega arith)) e
-  percentage-le from a b c d e h (suc (suc (suc (suc (suc m))))) l = absurd (omega arith)
+  -- five percentages that stand singly, from k on
+  percentage-le : (k : ℕ) → every (λ (place : ℕ). leb (at limits place) 100) (70 + k) 5 ≡ true → k + 4 < 24 → (medium : ℕ) → medium < 5
+      → getD (percentagesFrom fields k) medium 0 ≤ 100
+  percentage-le k e room medium h = rw (percentage-at medium h) (range-le 100 (70 + k) 5 e (omega arith) (70 + (k + medium)) (omega arith) (omega arith))
+    where
+      percentage-at : (medium : ℕ) → medium < 5 → getD (percentagesFrom fields k) medium 0 ≡ single fields (k + medium)
+      percentage-at zero l = ap (λ (n : ℕ). single fields n) (omega arith)
+      percentage-at (suc zero) l = refl
+      percentage-at (suc (suc zero)) l = refl
+      percentage-at (suc (suc (suc zero))) l = refl
+      percentage-at (suc (suc (suc (suc zero)))) l = refl
+      percentage-at (suc (suc (suc (suc (suc m))))) l = absurd (omega arith)
 
 -- what a scenario whose fields fit says for an age
 pub exposure-within : (s : Scenario) → fieldsFit (s .fields) ≡ true → (age : ℕ) → age ≤ 6 → ExposureLimits (exposureAt s age)
@@ -61,16 +70,16 @@ unfolding exposureAt limits every
 exposure-within s fit age h =
     let f = s .fields in
     record {
-      air = group-le f fit airAt 100_000_000 refl (omega arith) age h;
-      hours = group-le f fit hoursOutAt 24 refl (omega arith) age h;
-      breathing = group-le f fit breathingAt 100_000 refl (omega arith) age h;
-      absorption = group-le f fit airAbsorptionAt 100 refl (omega arith) age h;
-      diet = group-le f fit dietAt 1_000_000_000 refl (omega arith) age h;
-      water = group-le f fit waterAt 10_000 refl (omega arith) age h;
-      soil = group-le f fit soilAt 50_000_000 refl (omega arith) age h;
-      dust = group-le f fit dustAt 50_000_000 refl (omega arith) age h;
-      eaten = group-le f fit eatenAt 1_000 refl (omega arith) age h;
-      alternate = group-le f fit alternateAt 1_000_000_000 refl (omega arith) age h;
+      air = group-le f fit 0 100_000_000 refl (omega arith) age h;
+      hours = group-le f fit 7 24 refl (omega arith) age h;
+      breathing = group-le f fit 14 100_000 refl (omega arith) age h;
+      absorption = group-le f fit 21 100 refl (omega arith) age h;
+      diet = group-le f fit 28 1_000_000_000 refl (omega arith) age h;
+      water = group-le f fit 35 10_000 refl (omega arith) age h;
+      soil = group-le f fit 42 50_000_000 refl (omega arith) age h;
+      dust = group-le f fit 49 50_000_000 refl (omega arith) age h;
+      eaten = group-le f fit 56 1_000 refl (omega arith) age h;
+      alternate = group-le f fit 63 1_000_000_000 refl (omega arith) age h;
       indoor = field-le f fit 70 (omega arith);
       weight = field-le f fit 71 (omega arith);
       contribution = field-le f fit 72 (omega arith);
@@ -80,8 +89,8 @@ exposure-within s fit age h =
       first = field-le f fit 78 (omega arith);
       fountain = field-le f fit 79 (omega arith);
       shares = shares-le f fit;
-      absorbed = percentage-le f fit absorbedAt (omega arith) (omega arith) (omega arith) (omega arith) (omega arith) (omega arith);
-      passive = percentage-le f fit passiveAt (omega arith) (omega arith) (omega arith) (omega arith) (omega arith) (omega arith);
+      absorbed = percentage-le f fit 12 refl (omega arith);
+      passive = percentage-le f fit 17 refl (omega arith);
       saturation-least = saturation-ge f fit;
       saturation-most = field-le f fit 92 (omega arith);
     }

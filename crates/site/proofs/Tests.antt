@@ -8,7 +8,7 @@ use lib.Dec.{eqb, leb}
 use borrow.Author.Tests.{eqb-true, le-leb, lt-leb}
 use Rattle.numbers.specs.Choice.{every}
 use Rattle.numbers.proofs.Every.{every-at}
-use Rattle.site.specs.Fields.{at, limits, saturationAt, firstDrawShareAt, fountainShareAt, withinLimits, fieldsFit}
+use Rattle.site.specs.Fields.{at, limits, single, withinLimits, fieldsFit}
 
 -- the limit at a place is v
 abbrev pub limitIs : ℕ → ℕ → Bool
@@ -29,10 +29,10 @@ module _ (fields : List ℕ) where
   unfit-limits e = rw e
 
   module _ (within : withinLimits fields ≡ true) where
-    pub unfit-saturation : at fields saturationAt < 1_000_000 → false ≡ fieldsFit fields
+    pub unfit-saturation : single fields 22 < 1_000_000 → false ≡ fieldsFit fields
     unfolding fieldsFit
-    unfit-saturation h = rw (within, lt-leb 1_000_000 (at fields saturationAt) h)
+    unfit-saturation h = rw (within, lt-leb 1_000_000 (single fields 22) h)
 
-    pub fit-shares : 1_000_000 ≤ at fields saturationAt → leb (at fields firstDrawShareAt + at fields fountainShareAt) 100 ≡ fieldsFit fields
+    pub fit-shares : 1_000_000 ≤ single fields 22 → leb (single fields 10 + single fields 11) 100 ≡ fieldsFit fields
     unfolding fieldsFit
-    fit-shares h = rw (within, le-leb 1_000_000 (at fields saturationAt) h)
+    fit-shares h = rw (within, le-leb 1_000_000 (single fields 22) h)

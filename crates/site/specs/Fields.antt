@@ -1,6 +1,6 @@
--- The 94 fields of a site file: their places and their limits (document 01, "Site file").
+-- The 94 fields of a site file: their order and their limits (document 01, "Site file").
 -- Assumes nothing.
-use Prim.Native.Nat.{ℕ, _+_}
+use Prim.Native.Nat.{ℕ, _+_, _*_}
 use mathlib.Core.Bool.{Bool, _&&_}
 use mathlib.Core.List.{List, _++_}
 use lib.ListN.{getD, replicate}
@@ -33,89 +33,16 @@ limits =
     ++ replicate 1 500_000_000  -- saturation at 24 months
     ++ replicate 1 100_000  -- mother's blood lead
 
--- the place of each group's field for age 0
-abbrev pub airAt : ℕ
-airAt = 0
-
-abbrev pub hoursOutAt : ℕ
-hoursOutAt = 7
-
-abbrev pub breathingAt : ℕ
-breathingAt = 14
-
-abbrev pub airAbsorptionAt : ℕ
-airAbsorptionAt = 21
-
-abbrev pub dietAt : ℕ
-dietAt = 28
-
-abbrev pub waterAt : ℕ
-waterAt = 35
-
-abbrev pub soilAt : ℕ
-soilAt = 42
-
-abbrev pub dustAt : ℕ
-dustAt = 49
-
-abbrev pub eatenAt : ℕ
-eatenAt = 56
-
-abbrev pub alternateAt : ℕ
-alternateAt = 63
-
--- and of the fields that stand singly
-abbrev pub indoorAt : ℕ
-indoorAt = 70
-
-abbrev pub weightSoilAt : ℕ
-weightSoilAt = 71
-
-abbrev pub contributionAt : ℕ
-contributionAt = 72
-
-abbrev pub airToDustAt : ℕ
-airToDustAt = 73
-
-abbrev pub dustModeAt : ℕ
-dustModeAt = 74
-
-abbrev pub waterModeAt : ℕ
-waterModeAt = 75
-
-abbrev pub constantAt : ℕ
-constantAt = 76
-
-abbrev pub flushedAt : ℕ
-flushedAt = 77
-
-abbrev pub firstDrawAt : ℕ
-firstDrawAt = 78
-
-abbrev pub fountainAt : ℕ
-fountainAt = 79
-
-abbrev pub firstDrawShareAt : ℕ
-firstDrawShareAt = 80
-
-abbrev pub fountainShareAt : ℕ
-fountainShareAt = 81
-
-abbrev pub absorbedAt : ℕ
-absorbedAt = 82
-
-abbrev pub passiveAt : ℕ
-passiveAt = 87
-
-abbrev pub saturationAt : ℕ
-saturationAt = 92
-
-abbrev pub motherAt : ℕ
-motherAt = 93
-
 -- the field at a place
 abbrev pub at : List ℕ → ℕ → ℕ
 at fields place = getD fields place 0
+
+-- the field of group g for an age, and field k of those that stand singly
+abbrev pub byAge : List ℕ → ℕ → ℕ → ℕ
+byAge fields g age = at fields (7 * g + age)
+
+abbrev pub single : List ℕ → ℕ → ℕ
+single fields k = at fields (70 + k)
 
 -- each field is at most its limit
 unfoldable pub withinLimits : List ℕ → Bool
@@ -123,11 +50,11 @@ withinLimits fields = every (λ (place : ℕ). leb (at fields place) (at limits 
 
 -- saturation's lower end
 abbrev pub saturated : List ℕ → Bool
-saturated fields = leb 1_000_000 (at fields saturationAt)
+saturated fields = leb 1_000_000 (single fields 22)
 
 -- the two water shares are together at most 100
 abbrev pub sharesFit : List ℕ → Bool
-sharesFit fields = leb (at fields firstDrawShareAt + at fields fountainShareAt) 100
+sharesFit fields = leb (single fields 10 + single fields 11) 100
 
 -- the fields are within their limits: else 7
 unfoldable pub fieldsFit : List ℕ → Bool

@@ -1,15 +1,15 @@
 -- The scenario that a site file's fields say, and what it says for one age.
 -- Assumes nothing.
-use Prim.Native.Nat.{ℕ, zero, suc, _+_, _≤_, _<_}
+use Prim.Native.Nat.{ℕ, zero, suc, _+_}
 use mathlib.Core.List.{List, [], _∷_}
-use lib.ListN.{getD, replicate}
+use lib.ListN.{replicate}
 use Rattle.site.specs.declared.DustSource.{DustSource}
 use Rattle.site.specs.declared.DustSource.the-variants.{Given, MultipleSource}
 use Rattle.site.specs.declared.WaterSource.{WaterSource}
 use Rattle.site.specs.declared.WaterSource.the-variants.{Constant, ThreeSources}
 use Rattle.site.specs.declared.Scenario.{Scenario}
 use Rattle.site.specs.declared.Exposure.{Exposure}
-use Rattle.site.specs.Fields.{at, airAt, hoursOutAt, breathingAt, airAbsorptionAt, dietAt, waterAt, soilAt, dustAt, eatenAt, alternateAt, indoorAt, weightSoilAt, contributionAt, airToDustAt, dustModeAt, waterModeAt, constantAt, flushedAt, firstDrawAt, fountainAt, firstDrawShareAt, fountainShareAt, absorbedAt, passiveAt, saturationAt, motherAt}
+use Rattle.site.specs.Fields.{byAge, single}
 
 -- dust mode 0 given, 1 multiple source
 abbrev pub dustSourceOf : ℕ → DustSource
@@ -25,47 +25,47 @@ unfoldable pub scenarioOf : List ℕ → Scenario
 scenarioOf fields =
     record {
       fields = fields;
-      «dust_source» = dustSourceOf (at fields dustModeAt);
-      «water_source» = waterSourceOf (at fields waterModeAt);
+      «dust_source» = dustSourceOf (single fields 4);
+      «water_source» = waterSourceOf (single fields 5);
     }
 
 -- what stands beside a refusal
 unfoldable pub blankScenario : Scenario
 blankScenario = record { fields = replicate 94 0; «dust_source» = Given; «water_source» = Constant }
 
--- the percentages of the five eaten media, diet, water, dust, soil, alternate, from a place on
+-- the percentages of the five eaten media, diet, water, dust, soil, alternate: five single fields from k
 abbrev pub percentagesFrom : List ℕ → ℕ → List ℕ
-percentagesFrom fields from = at fields from ∷ at fields (from + 1) ∷ at fields (from + 2) ∷ at fields (from + 3) ∷ at fields (from + 4) ∷ []
+percentagesFrom fields k = single fields k ∷ single fields (k + 1) ∷ single fields (k + 2) ∷ single fields (k + 3) ∷ single fields (k + 4) ∷ []
 
 -- what fields and sources say for an age from 0 to 6
 abbrev pub exposureFrom : List ℕ → DustSource → WaterSource → ℕ → Exposure
 exposureFrom fields dustSource waterSource age =
     record {
-      air = at fields (airAt + age);
-      «hours_out» = at fields (hoursOutAt + age);
-      breathing = at fields (breathingAt + age);
-      «air_absorption» = at fields (airAbsorptionAt + age);
-      diet = at fields (dietAt + age);
-      water = at fields (waterAt + age);
-      soil = at fields (soilAt + age);
-      dust = at fields (dustAt + age);
-      eaten = at fields (eatenAt + age);
-      alternate = at fields (alternateAt + age);
-      indoor = at fields indoorAt;
-      «weight_soil» = at fields weightSoilAt;
-      contribution = at fields contributionAt;
-      «air_to_dust» = at fields airToDustAt;
+      air = byAge fields 0 age;
+      «hours_out» = byAge fields 1 age;
+      breathing = byAge fields 2 age;
+      «air_absorption» = byAge fields 3 age;
+      diet = byAge fields 4 age;
+      water = byAge fields 5 age;
+      soil = byAge fields 6 age;
+      dust = byAge fields 7 age;
+      eaten = byAge fields 8 age;
+      alternate = byAge fields 9 age;
+      indoor = single fields 0;
+      «weight_soil» = single fields 1;
+      contribution = single fields 2;
+      «air_to_dust» = single fields 3;
       «dust_source» = dustSource;
       «water_source» = waterSource;
-      constant = at fields constantAt;
-      flushed = at fields flushedAt;
-      «first_draw» = at fields firstDrawAt;
-      fountain = at fields fountainAt;
-      «first_draw_share» = at fields firstDrawShareAt;
-      «fountain_share» = at fields fountainShareAt;
-      absorbed = percentagesFrom fields absorbedAt;
-      passive = percentagesFrom fields passiveAt;
-      saturation = at fields saturationAt;
+      constant = single fields 6;
+      flushed = single fields 7;
+      «first_draw» = single fields 8;
+      fountain = single fields 9;
+      «first_draw_share» = single fields 10;
+      «fountain_share» = single fields 11;
+      absorbed = percentagesFrom fields 12;
+      passive = percentagesFrom fields 17;
+      saturation = single fields 22;
     }
 
 -- what a scenario says for an age from 0 to 6
@@ -74,30 +74,4 @@ exposureAt s age = exposureFrom (s .fields) (s .«dust_source») (s .«water_sou
 
 -- the mother's blood lead
 abbrev pub motherOf : Scenario → ℕ
-motherOf s = at (s .fields) motherAt
-
--- an exposure's limits, as an accepted site file keeps them
-pub record ExposureLimits (e : Exposure) : Type 0 where
-  pub air : e .air ≤ 100_000_000
-  pub hours : e .«hours_out» ≤ 24
-  pub breathing : e .breathing ≤ 100_000
-  pub absorption : e .«air_absorption» ≤ 100
-  pub diet : e .diet ≤ 1_000_000_000
-  pub water : e .water ≤ 10_000
-  pub soil : e .soil ≤ 50_000_000
-  pub dust : e .dust ≤ 50_000_000
-  pub eaten : e .eaten ≤ 1_000
-  pub alternate : e .alternate ≤ 1_000_000_000
-  pub indoor : e .indoor ≤ 100
-  pub weight : e .«weight_soil» ≤ 100
-  pub contribution : e .contribution ≤ 100
-  pub factor : e .«air_to_dust» ≤ 10_000
-  pub constant : e .constant ≤ 10_000_000
-  pub flushed : e .flushed ≤ 10_000_000
-  pub first : e .«first_draw» ≤ 10_000_000
-  pub fountain : e .fountain ≤ 10_000_000
-  pub shares : e .«first_draw_share» + e .«fountain_share» ≤ 100
-  pub absorbed : (medium : ℕ) → medium < 5 → getD (e .absorbed) medium 0 ≤ 100
-  pub passive : (medium : ℕ) → medium < 5 → getD (e .passive) medium 0 ≤ 100
-  pub saturation-least : 1_000_000 ≤ e .saturation
-  pub saturation-most : e .saturation ≤ 500_000_000
+motherOf s = single (s .fields) 23

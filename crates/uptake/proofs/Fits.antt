@@ -4,7 +4,7 @@ use Prim.Native.Nat.{ℕ, _+_, _-_, _*_, _/_, _≤_}
 use native.Mathlib.Nat.{mul-le-mul, mul-le-mul-left, mul-le-mul-right, div-le-of-le-mul, sub-le}
 use native.Mathlib.Omega.{arith}
 use Rattle.site.specs.declared.Exposure.{Exposure}
-use Rattle.site.specs.Scenario.{ExposureLimits}
+use Rattle.site.specs.Limits.{ExposureLimits}
 use Rattle.uptake.specs.Intake.{mixedWater}
 
 module _ {e : Exposure} (lim : ExposureLimits e) where

@@ -13,12 +13,11 @@ use Rattle.numbers.proofs.Refusals.{unless-none}
 use Rattle.numbers.proofs.Sums.{sum-le}
 use Rattle.site.specs.declared.Exposure.{Exposure}
 use Rattle.site.specs.Fields.{at}
-use Rattle.site.specs.Scenario.{ExposureLimits}
+use Rattle.site.specs.Limits.{ExposureLimits}
 use Rattle.uptake.specs.Age.{ageOf}
 use Rattle.uptake.specs.Intake.{airIntake, waterIntake, soilIntake, dustIntake, intakesOf, intakeOf, passes, refusalOf, intakeRefusal}
 use Rattle.uptake.specs.Uptake.{percentOf, saturationOf, absorbable, absorbableTotal, passiveUptake, activePart, activeUptake, mediumUptake, airUptake, dayUptake}
-use Rattle.uptake.specs.Ready.{Weights}
-use Rattle.uptake.specs.Laws.{AgeLaw, Passed, RefusalLaw, SaturationLaw, EatenLaw, AirLaw, DayLaw}
+use Rattle.uptake.specs.Laws.{Weights, AgeLaw, Passed, RefusalLaw, SaturationLaw, EatenLaw, AirLaw, DayLaw}
 
 pub age-law : AgeLaw
 unfolding ageOf

@@ -14,8 +14,8 @@ use Rattle.site.specs.Fields.{at}
 use Rattle.uptake.specs.declared.Absorbable.{Absorbable}
 use Rattle.uptake.specs.declared.Intakes.{Intakes}
 use Rattle.uptake.specs.Intake.{intakesOf}
-use Rattle.uptake.specs.Uptake.{percentOf, saturationOf, absorbable, absorbableTotal, absorbableOf, passiveUptake, activePart, activeUptake, mediumUptake, airUptake, dayUptake}
-use Rattle.uptake.specs.Ready.{Accepted}
+use Rattle.uptake.specs.Uptake.{percentOf, saturationOf, absorbable, absorbableTotal, passiveUptake, activePart, activeUptake, mediumUptake, airUptake, dayUptake}
+use Rattle.uptake.specs.Ready.{absorbableOf, Accepted}
 use Rattle.uptake.proofs.Laws.{absorbable-most, total-most}
 
 -- f's values for the first few media are added to a start

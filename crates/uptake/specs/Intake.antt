@@ -61,9 +61,6 @@ dustMedium = 2
 abbrev pub soilMedium : ℕ
 soilMedium = 3
 
-abbrev pub alternateMedium : ℕ
-alternateMedium = 4
-
 -- all intakes of an exposure: diet and alternate are given
 unfoldable pub intakesOf : Exposure → Intakes
 intakesOf e =

@@ -1,11 +1,9 @@
 -- What a child takes up of its intakes in a day, in pg (document 01, "Intake and uptake", U-1 to U-5; the AV factors are 1).
 -- Assumes nothing.
 use Prim.Native.Nat.{ℕ, _+_, _-_, _*_, _/_}
-use Rattle.numbers.specs.Choice.{tab}
 use Rattle.numbers.specs.Sums.{sumTo}
 use Rattle.site.specs.declared.Exposure.{Exposure}
 use Rattle.site.specs.Fields.{at}
-use Rattle.uptake.specs.declared.Absorbable.{Absorbable}
 use Rattle.uptake.specs.Intake.{airIntake, intakeOf}
 
 -- floor(percent × amount / 100)
@@ -23,10 +21,6 @@ absorbable e medium = percentOf (at (e .absorbed) medium) (intakeOf e medium)
 -- A, the sum of the five q
 unfoldable pub absorbableTotal : Exposure → ℕ
 absorbableTotal e = sumTo 5 (absorbable e)
-
--- the five q beside A
-unfoldable pub absorbableOf : Exposure → Absorbable
-absorbableOf e = record { media = tab 5 (absorbable e); total = absorbableTotal e }
 
 -- u = floor(passive% × q / 100), the passive part of an eaten medium's uptake (U-2)
 unfoldable pub passiveUptake : Exposure → ℕ → ℕ

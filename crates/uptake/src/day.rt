@@ -5,10 +5,11 @@ use crate::Intakes;
 use site::Exposure;
 ghost use mathlib.Core.Path.{_≡_};
 ghost use Prim.Native.Nat.{_+_, _-_, _≤_, _<_};
-ghost use Rattle.site.specs.Scenario.{ExposureLimits};
-ghost use Rattle.uptake.specs.Uptake.{percentOf, saturationOf, absorbableOf, activePart, dayUptake};
+ghost use Rattle.site.specs.Limits.{ExposureLimits};
+ghost use Rattle.uptake.specs.Uptake.{percentOf, saturationOf, activePart, dayUptake};
+ghost use Rattle.uptake.specs.Ready.{absorbableOf, Accepted};
+ghost use Rattle.uptake.specs.Laws.{Weights};
 ghost use Rattle.numbers.specs.Bounds.{Is};
-ghost use Rattle.uptake.specs.Ready.{Weights, Accepted};
 
 const MEDIA: usize = 5; // diet, water, dust, soil, alternate
 

@@ -5,7 +5,7 @@ use site::DustSource;
 use site::Exposure;
 use site::WaterSource;
 ghost use mathlib.Core.Path.{_≡_};
-ghost use Rattle.site.specs.Scenario.{ExposureLimits};
+ghost use Rattle.site.specs.Limits.{ExposureLimits};
 ghost use Rattle.uptake.specs.Intake.{airIntake, mixedWater, waterIntake, soilIntake, dustConcentration, dustIntake, intakesOf, refusalOf};
 ghost use Rattle.numbers.specs.Bounds.{Is};
 

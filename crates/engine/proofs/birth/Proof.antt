@@ -7,7 +7,7 @@ use borrow.Author.Needs.{needs}
 use denote.Ref.{now}
 use Rattle.site.specs.declared.Scenario.{Scenario}
 use Rattle.engine.specs.Birth.{newborn, newbornRefusal, birthAnswer}
-use Rattle.engine.specs.Ready.{filesOf}
+use Rattle.engine.specs.Files.{filesOf}
 use Rattle.engine.proofs.Accepted.{read-decoded, read-long}
 use Rattle.engine.proofs.Calls.{birth-files-refused, birth-passed}
 use Rattle.engine.proofs.birth.Statement.{statement}

@@ -6,7 +6,8 @@ use Prim.Native.Nat.{ℕ}
 use borrow.Author.Needs.{needs}
 use denote.Ref.{now}
 use Rattle.site.specs.declared.Scenario.{Scenario}
-use Rattle.engine.specs.Ready.{filesOf, childMonth}
+use Rattle.engine.specs.Ready.{childMonth}
+use Rattle.engine.specs.Files.{filesOf}
 use Rattle.engine.proofs.Accepted.{read-decoded, read-long}
 use Rattle.engine.proofs.Calls.{month-files-refused, month-passed}
 use Rattle.engine.proofs.month.Statement.{statement}

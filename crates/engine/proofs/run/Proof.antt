@@ -6,10 +6,10 @@ use mathlib.Core.List.{List}
 use borrow.Author.Needs.{needs}
 use denote.Ref.{now}
 use Rattle.site.specs.declared.Scenario.{Scenario}
-use Rattle.engine.specs.Files.{Files}
+use Rattle.engine.specs.Files.{Files, filesOf}
 use Rattle.engine.specs.Birth.{newborn, newbornRefusal, birthAnswer, birthOf}
 use Rattle.engine.specs.Run.{runAnswer, runList}
-use Rattle.engine.specs.Ready.{filesOf, childRun}
+use Rattle.engine.specs.Ready.{childRun}
 use Rattle.engine.proofs.Accepted.{read-decoded, read-long}
 use Rattle.engine.proofs.Calls.{birth-passed}
 use Rattle.engine.proofs.Runs.{run-lengths, run-list, run-files, run-birth, run-months}

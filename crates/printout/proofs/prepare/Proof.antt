@@ -1,7 +1,7 @@
 -- `printout::prepare` meets its contract: what it keeps of the run is what the run answers and writes.
 -- Assumes nothing.
 use denote.Ref.{now}
-use Rattle.engine.specs.Ready.{filesOf}
+use Rattle.engine.specs.Files.{filesOf}
 use Rattle.printout.proofs.Kept.{kept-is, kept-few}
 use borrow.Author.Needs.{needs}
 use Rattle.printout.proofs.prepare.Statement.{statement}

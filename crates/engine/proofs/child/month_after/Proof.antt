@@ -4,7 +4,8 @@ use mathlib.Core.Path.{_≡_, sym, ap, _∙_}
 use native.Mathlib.Omega.{arith}
 use borrow.Author.Needs.{needs}
 use denote.Ref.{now}
-use Rattle.site.specs.Scenario.{exposureAt, ExposureLimits}
+use Rattle.site.specs.Scenario.{exposureAt}
+use Rattle.site.specs.Limits.{ExposureLimits}
 use Rattle.uptake.specs.Intake.{intakesOf, refusalOf, intakeRefusal}
 use Rattle.uptake.proofs.Ready.{accept}
 use Rattle.engine.specs.Month.{monthAfter, exposureIn}

@@ -5,7 +5,7 @@ use borrow.Author.Needs.{needs}
 use denote.Ref.{now}
 use Rattle.site.specs.declared.SiteRead.{SiteRead}
 use Rattle.site.proofs.Accepted.{read-refusal}
-use Rattle.engine.specs.Ready.{filesOf}
+use Rattle.engine.specs.Files.{filesOf}
 use Rattle.engine.proofs.Answers.{files-length, files-site, files-book}
 use Rattle.engine.proofs.files.read_files.Statement.{statement}
 use Rattle.engine.proofs.files.read_files.Tie as tie

@@ -7,7 +7,7 @@ use mathlib.Core.Path.{sym, _∙_}
 use native.Mathlib.Omega.{arith}
 use mir.Syntax.{w32}
 use mir.Val.{Fits}
-use Rattle.site.specs.Fields.{at, firstDrawShareAt, fountainShareAt}
+use Rattle.site.specs.Fields.{single}
 use Rattle.site.proofs.Tests.{unfit-limits, unfit-saturation, fit-shares}
 
 within-limits-requires : tie.Need-within-limits-requires
@@ -33,8 +33,8 @@ cast-result-2 c = search needs
 
 add-result : tie.Need-add-result
 add-result c =
-    let first : Fits w32 (at (c .before .before .before .args .t1) firstDrawShareAt) = search needs in
-    let second : Fits w32 (at (c .before .before .before .args .t1) fountainShareAt) = search needs in
+    let first : Fits w32 (single (c .before .before .before .args .t1) 10) = search needs in
+    let second : Fits w32 (single (c .before .before .before .args .t1) 11) = search needs in
     omega arith
 
 returns-2 : tie.Need-returns-2

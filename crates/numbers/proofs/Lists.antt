@@ -4,7 +4,7 @@ use Prim.Native.Nat.{ℕ, _+_}
 use mathlib.Core.Path.{_≡_}
 use mathlib.Core.List.{List, [], _∷_, _++_}
 use native.Mathlib.Omega.{arith}
-use Rattle.engine.specs.Conservation.{Each, totalOf}
+use Rattle.numbers.specs.Lists.{Each, totalOf}
 
 pub total-append : {A : Type 0} (g : A → ℕ) (xs ys : List A) → totalOf g (xs ++ ys) ≡ totalOf g xs + totalOf g ys
 total-append g [] ys = omega arith
