@@ -67,7 +67,8 @@ pub extern "C" fn jurengate_write_block(body: &[u8], target: &mut [u8]) -> u32
     ensures { λ r. ⌜ r ≡ writerRefusal (now (body .entry)) (now (target .entry)) ⌝ }
     ensures { λ _. ⌜ now (target .exit) ≡ written (now (body .entry)) (now (target .entry)) ⌝ }
 {
-    block::write::write_block(body, target)
+    let refusal = block::write::write_block(body, target);
+    refusal
 }
 
 // Birth: the child at month 0, all zeros where it is refused.

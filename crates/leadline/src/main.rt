@@ -4,7 +4,6 @@ use libc::STDOUT_FILENO;
 use printout::LINE_BYTES;
 use printout::LINES;
 use printout::Prepared;
-ghost use Prim.Native.Nat.{_≤_};
 ghost use Rattle.io.specs.Counts.{Counts};
 
 // What is read of each file: a byte more than its format has, so that a longer file has a wrong length and is not read whole.
@@ -26,9 +25,7 @@ fn read_file(path: &[u8], buffer: &mut [u8]) -> usize
 }
 
 // Prints line k, and answers whether it was written; says on standard error why not.
-fn print_line(run: Prepared, k: u32) -> bool
-    requires { ⌜ run .months ≤ 84 ⌝ }
-{
+fn print_line(run: Prepared, k: u32) -> bool {
     let mut line = [0u8; LINE_BYTES];
     let bytes = printout::line(run, k, &mut line);
     let is_written = io::write_all(STDOUT_FILENO, &line[..bytes]);
@@ -39,9 +36,7 @@ fn print_line(run: Prepared, k: u32) -> bool
 }
 
 // Prints each line, up to the first that cannot be written.
-fn print_lines(run: Prepared)
-    requires { ⌜ run .months ≤ 84 ⌝ }
-{
+fn print_lines(run: Prepared) {
     let mut k: u32 = 0;
     while k < LINES && print_line(run, k) {
         k = k + 1;

@@ -1,6 +1,6 @@
 -- What is kept of a run: at most 84 months, in 84 places.
 -- Assumes nothing.
-use mathlib.Core.Path.{_≡_, ap, ap₂}
+use mathlib.Core.Path.{_≡_, ap₂}
 use Prim.Native.Nat.{ℕ, zero, suc, _≤_}
 use mathlib.Core.List.{List}
 use native.Mathlib.Omega.{arith}
@@ -38,10 +38,6 @@ run-few s f places =
 abbrev kept : RunAnswer → List ℕ → Prepared
 kept x blood = record { refusal = x .refusal; months = x .months; blood = blood }
 
-module _ (f : Files) (x : RunAnswer) (answer : x ≡ runAnswer (runOf 6 f 84)) where
-  pub kept-is : (blood : List ℕ) → blood ≡ runList (runOf 6 f 84) (replicate 84 0) → kept x blood ≡ preparedOf f
-  unfolding preparedOf
-  kept-is blood list = ap₂ kept answer list
-
-  pub kept-few : x .months ≤ 84
-  kept-few = rw (ap (λ (y : RunAnswer). y .months) answer) (run-few 6 f 84)
+pub kept-is : (f : Files) (x : RunAnswer) → x ≡ runAnswer (runOf 6 f 84) → (blood : List ℕ) → blood ≡ runList (runOf 6 f 84) (replicate 84 0) → kept x blood ≡ preparedOf f
+unfolding preparedOf
+kept-is f x answer blood list = ap₂ kept answer list

@@ -25,8 +25,8 @@ module _ (p : Prepared) (k : ℕ) where
   unfolding lineAt
   line-done h = rw (lt-ltb k (p .months) h)
 
-  pub line-month : k < p .months → lineAt p k ≡ monthLine (k + 1) (getD (p .blood) k 0)
-  line-month h = rw add-one (line-done h)
+  pub line-month : k < p .months → {blood : ℕ} → blood ≡ getD (p .blood) k 0 → lineAt p k ≡ monthLine (k + 1) blood
+  line-month h e = rw (e, add-one) (line-done h)
 
   line-last : k ≡ p .months → lineAt p k ≡ lastLine (p .refusal) (p .months)
   unfolding lineAt

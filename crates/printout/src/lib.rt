@@ -1,6 +1,6 @@
 // What leadline prints, a line at a time, from the bytes of its two files. Reading files and writing bytes is left to the program.
 ghost use mathlib.Core.Path.{_≡_};
-ghost use Prim.Native.Nat.{_≤_};
+ghost use lib.ListN.{getD};
 ghost use Rattle.engine.specs.Files.{filesOf};
 ghost use Rattle.printout.specs.Text.{Holds};
 ghost use Rattle.printout.specs.Lines.{preparedOf, lineAt};
@@ -27,7 +27,6 @@ pub struct Prepared {
 // Runs the two files, of any length and content.
 pub fn prepare(site: &[u8], book: &[u8]) -> Prepared
     ensures { λ r. ⌜ r ≡ preparedOf (filesOf (now (site .entry)) (now (book .entry))) ⌝ }
-    ensures { λ r. ⌜ r .months ≤ 84 ⌝ }
 {
     let mut blood = [0u32; MONTHS];
     let answer = engine::run(site, book, &mut blood);
@@ -38,15 +37,23 @@ pub fn prepare(site: &[u8], book: &[u8]) -> Prepared
     }
 }
 
+// The figure at place k, 0 past the last place.
+fn figure_at(run: Prepared, k: u32) -> u32
+    ensures { λ r. ⌜ r ≡ getD (run .blood) k 0 ⌝ }
+{
+    let blood = run.blood;
+    let place = k as usize;
+    if place < MONTHS { blood[place] } else { 0 }
+}
+
 // Puts line k, from 0, at the start of the target, and answers its length: 0 past the last line.
 pub fn line(run: Prepared, k: u32, target: &mut [u8; LINE_BYTES]) -> usize
-    requires { ⌜ run .months ≤ 84 ⌝ }
     ensures { λ r. ⌜ Holds (lineAt run k) (now (target .exit)) r ⌝ }
 {
     let months = run.months;
     if k < months {
-        let blood = run.blood;
-        return lines::put_month(target, k + 1, blood[k as usize]);
+        let blood = figure_at(run, k);
+        return lines::put_month(target, k + 1, blood);
     }
     let refusal = run.refusal;
     if k != months {

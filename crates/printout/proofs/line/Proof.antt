@@ -7,14 +7,11 @@ use Rattle.printout.proofs.Whole.{line-month, line-refused, line-past, 
 use Rattle.printout.proofs.line.Statement.{statement}
 use Rattle.printout.proofs.line.Tie as tie
 
+figure-at-requires : tie.Need-figure-at-requires
+figure-at-requires c κs = search needs
+
 add-put-month : tie.Need-add-put-month
 add-put-month c = search needs
-
-mul-put-month : tie.Need-mul-put-month
-mul-put-month c = search needs
-
-array-read-put-month : tie.Need-array-read-put-month
-array-read-put-month c = search needs
 
 put-month-requires : tie.Need-put-month-requires
 put-month-requires c κs = search needs
@@ -22,7 +19,7 @@ put-month-requires c κs = search needs
 returns : tie.Need-returns
 returns c =
     let a = c .before .before .before .before .args in
-    put-holds (line-month (a .run) (a .k) (c .before .before .before .if1 .taken)) (c .put-month .ensures)
+    put-holds (line-month (a .run) (a .k) (c .before .before .before .if1 .taken) (c .before .before .figure-at .ensures)) (c .put-month .ensures)
 
 returns-2 : tie.Need-returns-2
 returns-2 c =
@@ -46,9 +43,8 @@ pub line-spec : {M : Type 1} → statement M
 line-spec =
     tie.close
     (tie.spec
+    figure-at-requires
     add-put-month
-    mul-put-month
-    array-read-put-month
     put-month-requires
     returns
     returns-2

@@ -2,7 +2,7 @@
 -- Assumes nothing.
 use denote.Ref.{now}
 use Rattle.engine.specs.Files.{filesOf}
-use Rattle.printout.proofs.Kept.{kept-is, kept-few}
+use Rattle.printout.proofs.Kept.{kept-is}
 use borrow.Author.Needs.{needs}
 use Rattle.printout.proofs.prepare.Statement.{statement}
 use Rattle.printout.proofs.prepare.Tie as tie
@@ -18,7 +18,7 @@ returns c =
     let a = c .before .before .before .before .before .args in
     let f = filesOf (now (a .site)) (now (a .book)) in
     let run = c .before .run in
-    (kept-is f _ (run .ensures .0) _ (run .ensures .1), kept-few f _ (run .ensures .0))
+    kept-is f _ (run .ensures .0) _ (run .ensures .1)
 
 pub prepare-spec : {M : Type 1} → statement M
 prepare-spec = tie.close (tie.spec slice-aggregate-run run-requires returns)
