@@ -1,5 +1,5 @@
-pub mod Book
-pub mod Laws
-pub mod Limits
-pub mod Ready
 pub mod Row
+pub mod Book
+pub mod Limits
+pub mod Laws
+pub mod Ready

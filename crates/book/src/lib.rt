@@ -1,34 +1,39 @@
 // The rate book: 17 blocks of five month rows each, decoded once into a table of numbers, or refused.
 use block::BLOCK_BYTES;
+use block::FIELDS_AT;
 use block::WRONG_LENGTH;
+use places::ROW_NUMBERS;
 ghost use mathlib.Core.Path.{_≡_};
 ghost use Prim.Native.Nat.{_<_};
 ghost use lib.ListN.{length, replicate};
-ghost use Rattle.book.specs.Book.{blocksRefusal, numbersOf, bookRefusal, bookTable};
+ghost use Rattle.book.specs.Book.{bookRefusal, bookTable};
 ghost use Rattle.book.specs.Ready.{BlockDecoded, BookDecoded};
 
 mod limits;
+mod places;
 pub mod table;
 
 // A book row outside its limits.
 const ROW_LIMIT: u32 = 8;
 
 // A book is blocks 0 to 16 of edition 1, with bytes used up to the end of a block's last row.
-pub const BOOK_BYTES: usize = 8_704;
+pub const BOOK_BLOCKS: usize = 17;
 
-const BOOK_BLOCKS: usize = 17;
+pub const BOOK_BYTES: usize = BOOK_BLOCKS * BLOCK_BYTES;
 
 const BOOK_EDITION: u32 = 1;
 
-const BLOCK_USED: usize = 464;
+const BLOCK_USED: usize = FIELDS_AT + 4 * BLOCK_NUMBERS;
 
-// D, the unit of the rates: a rate of D is the whole amount a step.
+// D, the unit of the rates: a rate of D is 1 a step.
 pub const UNIT: u64 = 100_000_000;
 
-// Rows and numbers of a block.
+// Rows and numbers of a block, and numbers of the table of all blocks.
 const BLOCK_ROWS: usize = 5;
 
-const BLOCK_NUMBERS: usize = 115;
+const BLOCK_NUMBERS: usize = BLOCK_ROWS * ROW_NUMBERS;
+
+pub const TABLE_NUMBERS: usize = BOOK_BLOCKS * BLOCK_NUMBERS;
 
 // A month's rates a step, in units of 1/D: from plasma to red cells, liver, kidney, other, trabecular and cortical bone, and to
 // urine; from these six back to plasma; from liver to faeces, and from other to skin, hair and nails.
@@ -100,7 +105,7 @@ fn blank(table: &mut [u32])
 }
 
 // Reads a book into a table of its 85 rows of 23 numbers, and answers 0; or answers why it is refused, with a blank table.
-pub fn read_book(book: &[u8], table: &mut [u32; 1955]) -> u32
+pub fn read_book(book: &[u8], table: &mut [u32; TABLE_NUMBERS]) -> u32
     ensures { λ r. ⌜ r ≡ bookRefusal (now (book .entry)) ⌝ }
     ensures { λ _. ⌜ now (table .exit) ≡ bookTable (now (book .entry)) ⌝ }
 {

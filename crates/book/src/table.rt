@@ -1,23 +1,21 @@
 // A month's row of a table of rows of 23 numbers.
 use super::Rates;
 use super::Row;
+use super::places;
 ghost use mathlib.Core.Path.{_≡_};
 ghost use Prim.Native.Nat.{_+_, _*_, _≤_};
 ghost use lib.ListN.{length};
 ghost use Rattle.book.specs.Row.{rowNumbers, rowFrom, rowOf};
 
-// Numbers of a row.
-const ROW_NUMBERS: usize = 23;
-
 // The numbers of row `month`, in 64 bits.
-fn row_numbers(table: &[u32], month: usize) -> [u64; 23]
+fn row_numbers(table: &[u32], month: usize) -> [u64; places::ROW_NUMBERS]
     requires { ⌜ 23 * month + 23 ≤ length (now table) ⌝ }
     ensures { λ r. ⌜ r ≡ rowNumbers (now (table .entry)) month ⌝ }
 {
-    let first = ROW_NUMBERS * month;
-    let mut numbers = [0u64; 23];
+    let first = places::ROW_NUMBERS * month;
+    let mut numbers = [0u64; places::ROW_NUMBERS];
     let mut k: usize = 0;
-    while k < ROW_NUMBERS {
+    while k < places::ROW_NUMBERS {
         let number = table[first + k];
         numbers[k] = number as u64;
         k = k + 1;
@@ -26,39 +24,39 @@ fn row_numbers(table: &[u32], month: usize) -> [u64; 23]
 }
 
 // The row that 23 numbers say.
-fn row_from(numbers: [u64; 23]) -> Row
+fn row_from(numbers: [u64; places::ROW_NUMBERS]) -> Row
     ensures { λ r. ⌜ r ≡ rowFrom numbers ⌝ }
 {
     let rates = Rates {
         out: [
-            numbers[8],
-            numbers[9],
-            numbers[10],
-            numbers[11],
-            numbers[12],
-            numbers[13],
+            numbers[places::OUT],
+            numbers[places::OUT + 1],
+            numbers[places::OUT + 2],
+            numbers[places::OUT + 3],
+            numbers[places::OUT + 4],
+            numbers[places::OUT + 5],
         ],
-        urine: numbers[14],
+        urine: numbers[places::URINE],
         back: [
-            numbers[15],
-            numbers[16],
-            numbers[17],
-            numbers[18],
-            numbers[19],
-            numbers[20],
+            numbers[places::BACK],
+            numbers[places::BACK + 1],
+            numbers[places::BACK + 2],
+            numbers[places::BACK + 3],
+            numbers[places::BACK + 4],
+            numbers[places::BACK + 5],
         ],
-        faeces: numbers[21],
-        skin: numbers[22],
+        faeces: numbers[places::FAECES],
+        skin: numbers[places::SKIN],
     };
     Row {
-        blood_volume: numbers[0],
-        plasma_volume: numbers[1],
-        body_weight: numbers[2],
-        kidney: numbers[3],
-        liver: numbers[4],
-        other: numbers[5],
-        trabecular: numbers[6],
-        cortical: numbers[7],
+        blood_volume: numbers[places::BLOOD_VOLUME],
+        plasma_volume: numbers[places::PLASMA_VOLUME],
+        body_weight: numbers[places::BODY_WEIGHT],
+        kidney: numbers[places::KIDNEY],
+        liver: numbers[places::LIVER],
+        other: numbers[places::OTHER],
+        trabecular: numbers[places::TRABECULAR],
+        cortical: numbers[places::CORTICAL],
         rates,
     }
 }

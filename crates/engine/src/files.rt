@@ -2,6 +2,7 @@
 use super::FilesRead;
 use block::WRONG_LENGTH;
 use book::BOOK_BYTES;
+use book::TABLE_NUMBERS;
 use site::SITE_BYTES;
 ghost use mathlib.Core.Path.{_≡_};
 ghost use Rattle.engine.specs.Files.{lengthRefusal, filesOf};
@@ -21,7 +22,7 @@ pub fn length_refusal(site: &[u8], book: &[u8]) -> u32
 }
 
 // Reads the site file into a scenario and the book into the table, or answers why they are refused.
-pub fn read_files(site: &[u8], book: &[u8], table: &mut [u32; 1955]) -> FilesRead
+pub fn read_files(site: &[u8], book: &[u8], table: &mut [u32; TABLE_NUMBERS]) -> FilesRead
     ensures { λ r. ⌜ FilesDone (filesOf (now (site .entry)) (now (book .entry))) (now (table .exit)) r ⌝ }
 {
     let read = site::read_site(site);

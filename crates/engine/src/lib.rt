@@ -1,4 +1,5 @@
 // The engine: birth, the month call and the run, on site files and rate books of any length and content.
+use book::TABLE_NUMBERS;
 use kinetics::State;
 use site::Scenario;
 ghost use mathlib.Core.Path.{_≡_};
@@ -61,7 +62,7 @@ pub struct FilesRead {
 pub fn birth(site: &[u8], book: &[u8]) -> BirthAnswer
     ensures { λ r. ⌜ r ≡ birthOf (filesOf (now (site .entry)) (now (book .entry))) ⌝ }
 {
-    let mut table = [0u32; 1955];
+    let mut table = [0u32; TABLE_NUMBERS];
     let read = files::read_files(site, book, &mut table);
     let refusal = read.refusal;
     if refusal != 0 {
@@ -78,7 +79,7 @@ pub fn birth(site: &[u8], book: &[u8]) -> BirthAnswer
 pub fn month(state: State, site: &[u8], book: &[u8]) -> MonthAnswer
     ensures { λ r. ⌜ r ≡ monthOf 6 state (filesOf (now (site .entry)) (now (book .entry))) ⌝ }
 {
-    let mut table = [0u32; 1955];
+    let mut table = [0u32; TABLE_NUMBERS];
     let read = files::read_files(site, book, &mut table);
     let refusal = read.refusal;
     if refusal != 0 {
@@ -111,7 +112,7 @@ pub fn run(site: &[u8], book: &[u8], blood: &mut [u32]) -> RunAnswer
     if blood.len() != MONTHS {
         return refused_run(BLOOD_LIST);
     }
-    let mut table = [0u32; 1955];
+    let mut table = [0u32; TABLE_NUMBERS];
     let read = files::read_files(site, book, &mut table);
     let refusal = read.refusal;
     if refusal != 0 {

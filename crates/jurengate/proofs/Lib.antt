@@ -1,1 +1,2 @@
--- The C interface needs no lemmas of its own.
+-- Words and states.
+pub mod Words

@@ -1,16 +1,23 @@
 // The C interface for firmware: include/jurengate.h declares these calls.
+use book::TABLE_NUMBERS;
 use kinetics::State;
+use site::places::FIELDS;
 ghost use mathlib.Core.Path.{_≡_};
 ghost use lib.ListN.{length};
 ghost use Rattle.block.specs.Writer.{writerRefusal, written};
 ghost use Rattle.site.specs.Site.{readSite};
+ghost use Rattle.book.specs.Book.{bookRefusal, bookTable};
 ghost use Rattle.engine.specs.Birth.{birthOf};
 ghost use Rattle.engine.specs.Month.{monthOf};
 ghost use Rattle.engine.specs.Run.{runOf, runAnswer, runList};
 ghost use Rattle.engine.specs.Files.{filesOf};
 ghost use Rattle.jurengate.specs.Words.{wordsOf, stateOf};
 
-fn words_of(state: State) -> [u64; 11]
+// Words of a state.
+const WORDS: usize = 11;
+
+// A state in words.
+fn words_of(state: State) -> [u64; WORDS]
     ensures { λ r. ⌜ r ≡ wordsOf state ⌝ }
 {
     let lead = state.lead;
@@ -30,7 +37,8 @@ fn words_of(state: State) -> [u64; 11]
     ]
 }
 
-fn state_of(words: [u64; 11]) -> State
+// The state that words say.
+fn state_of(words: [u64; WORDS]) -> State
     ensures { λ r. ⌜ r ≡ stateOf words ⌝ }
 {
     State {
@@ -50,7 +58,7 @@ fn state_of(words: [u64; 11]) -> State
 
 // Reads a site file: its refusal, and its fields, zeros where it is refused.
 #[no_mangle]
-pub extern "C" fn jurengate_read_site(site: &[u8], fields: &mut [u32; 94]) -> u32
+pub extern "C" fn jurengate_read_site(site: &[u8], fields: &mut [u32; FIELDS]) -> u32
     ensures { λ r. ⌜ r ≡ readSite (now (site .entry)) .refusal ⌝ }
     ensures { λ _. ⌜ now (fields .exit) ≡ readSite (now (site .entry)) .scenario .fields ⌝ }
 {
@@ -61,19 +69,29 @@ pub extern "C" fn jurengate_read_site(site: &[u8], fields: &mut [u32; 94]) -> u3
     read.refusal
 }
 
+// Reads a rate book: its refusal, and its 85 rows of 23 numbers, zeros where it is refused.
+#[no_mangle]
+pub extern "C" fn jurengate_read_book(book: &[u8], table: &mut [u32; TABLE_NUMBERS]) -> u32
+    ensures { λ r. ⌜ r ≡ bookRefusal (now (book .entry)) ⌝ }
+    ensures { λ _. ⌜ now (table .exit) ≡ bookTable (now (book .entry)) ⌝ }
+{
+    let of_book = book::read_book(book, table);
+    of_book
+}
+
 // Writes a body of 508 bytes with its check into a target of 512.
 #[no_mangle]
 pub extern "C" fn jurengate_write_block(body: &[u8], target: &mut [u8]) -> u32
     ensures { λ r. ⌜ r ≡ writerRefusal (now (body .entry)) (now (target .entry)) ⌝ }
     ensures { λ _. ⌜ now (target .exit) ≡ written (now (body .entry)) (now (target .entry)) ⌝ }
 {
-    let refusal = block::write::write_block(body, target);
-    refusal
+    let of_lengths = block::write::write_block(body, target);
+    of_lengths
 }
 
 // Birth: the child at month 0, all zeros where it is refused.
 #[no_mangle]
-pub extern "C" fn jurengate_birth(site: &[u8], book: &[u8], state: &mut [u64; 11]) -> u32
+pub extern "C" fn jurengate_birth(site: &[u8], book: &[u8], state: &mut [u64; WORDS]) -> u32
     ensures { λ r. ⌜ r ≡ birthOf (filesOf (now (site .entry)) (now (book .entry))) .refusal ⌝ }
     ensures { λ _. ⌜ now (state .exit) ≡ wordsOf (birthOf (filesOf (now (site .entry)) (now (book .entry))) .state) ⌝ }
 {
@@ -88,7 +106,7 @@ pub extern "C" fn jurengate_birth(site: &[u8], book: &[u8], state: &mut [u64; 11
 pub extern "C" fn jurengate_month(
     site: &[u8],
     book: &[u8],
-    state: &mut [u64; 11],
+    state: &mut [u64; WORDS],
     blood: &mut u32,
 ) -> u32
     ensures { λ r. ⌜ r ≡ monthOf 6 (stateOf (now (state .entry))) (filesOf (now (site .entry)) (now (book .entry))) .refusal ⌝ }
@@ -110,7 +128,7 @@ pub extern "C" fn jurengate_run(
     site: &[u8],
     book: &[u8],
     blood: &mut [u32],
-    state: &mut [u64; 11],
+    state: &mut [u64; WORDS],
     months: &mut u32,
 ) -> u32
     ensures { λ r. ⌜ r ≡ runOf 6 (filesOf (now (site .entry)) (now (book .entry))) (length (now (blood .entry))) .refusal ⌝ }

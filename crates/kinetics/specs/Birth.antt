@@ -21,7 +21,7 @@ birthPlasma row mother = birthTotal row mother * back (row .rates) 0 / (out (row
 unfoldable pub birthRedCells : Row → ℕ → ℕ
 birthRedCells row mother = birthTotal row mother - birthPlasma row mother
 
--- the others, from their ratio to the blood in tenths and their weight
+-- the others (B-7e to B-7i), from their ratio to the blood in tenths and their weight
 unfoldable pub birthOrgan : ℕ → ℕ → ℕ → ℕ
 birthOrgan ratio blood weight = ratio * blood * weight / 10
 

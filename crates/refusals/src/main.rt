@@ -1,14 +1,26 @@
 // Shows a file for each refusal number of the site reader, the book reader and the block writer.
 use block::BLOCK_BYTES;
+use block::CHECK_AT;
 use block::EDITION_AT;
+use block::FIELDS_AT;
 use block::NUMBER_AT;
+use book::BOOK_BLOCKS;
+use book::BOOK_BYTES;
+use book::TABLE_NUMBERS;
 use libc::STDOUT_FILENO;
 ghost use mathlib.Core.Path.{_≡_};
 ghost use Prim.Native.Nat.{_<_};
 ghost use lib.ListN.{length};
 
-// Blocks of a book.
-const BOOK_BLOCKS: usize = 17;
+// Where a site file's saturation and its first hours out stand, and the bytes past its last field.
+const SATURATION_AT: usize = FIELDS_AT + 4 * site::places::SATURATION;
+
+const HOURS_OUT_AT: usize = FIELDS_AT + 4 * site::places::HOURS_OUT;
+
+const SITE_RESERVED_AT: usize = FIELDS_AT + 4 * site::places::FIELDS;
+
+// Bytes of a month row.
+const ROW_BYTES: usize = 92;
 
 // A line: who answered, and the number.
 fn answered(who: &[u8], number: u32) {
@@ -23,13 +35,13 @@ fn show_site(file: &[u8]) {
 }
 
 fn show_book(file: &[u8]) {
-    let mut table = [0u32; 1955];
+    let mut table = [0u32; TABLE_NUMBERS];
     let refusal = book::read_book(file, &mut table);
     answered(b"book ", refusal);
 }
 
 fn show_writer(body: &[u8]) {
-    let mut target = [0u8; 512];
+    let mut target = [0u8; BLOCK_BYTES];
     let refusal = block::write::write_block(body, &mut target);
     answered(b"writer ", refusal);
 }
@@ -38,13 +50,13 @@ fn show_writer(body: &[u8]) {
 fn show_site_with(at: usize, byte: u8)
     requires { ⌜ at < 508 ⌝ }
 {
-    let mut body = [0u8; 508];
+    let mut body = [0u8; CHECK_AT];
     body[EDITION_AT] = 1;
-    body[372] = 0x40; // saturation 1,000,000
-    body[373] = 0x42;
-    body[374] = 0x0f;
+    body[SATURATION_AT] = 0x40; // 1,000,000
+    body[SATURATION_AT + 1] = 0x42;
+    body[SATURATION_AT + 2] = 0x0f;
     body[at] = byte;
-    let mut file = [0u8; 512];
+    let mut file = [0u8; BLOCK_BYTES];
     block::write::write_block(&body, &mut file);
     show_site(&file);
 }
@@ -54,7 +66,7 @@ fn put_row(body: &mut [u8], row: usize)
     requires { ⌜ (length (now body) ≡ 508) × (row < 5) ⌝ }
     ensures { λ _. ⌜ length (now (body .exit)) ≡ 508 ⌝ }
 {
-    let at = 4 + 92 * row;
+    let at = FIELDS_AT + ROW_BYTES * row;
     body[at] = 0xe8; // blood volume 1,000
     body[at + 1] = 0x03;
     body[at + 4] = 1; // plasma volume
@@ -68,7 +80,7 @@ fn put_block(book: &mut [u8], n: usize, at: usize, byte: u8)
     requires { ⌜ (length (now book) ≡ 8704) × ((n < 17) × (at < 508)) ⌝ }
     ensures { λ _. ⌜ length (now (book .exit)) ≡ 8704 ⌝ }
 {
-    let mut body = [0u8; 508];
+    let mut body = [0u8; CHECK_AT];
     body[NUMBER_AT] = n as u8;
     body[EDITION_AT] = 1;
     put_row(&mut body, 0);
@@ -98,7 +110,7 @@ fn put_blocks(book: &mut [u8])
 fn show_book_with(at: usize, byte: u8)
     requires { ⌜ at < 508 ⌝ }
 {
-    let mut book = [0u8; 8704];
+    let mut book = [0u8; BOOK_BYTES];
     put_blocks(&mut book);
     put_block(&mut book, BOOK_BLOCKS - 1, at, byte);
     show_book(&book);
@@ -108,18 +120,18 @@ fn show_book_with(at: usize, byte: u8)
 fn main() {
     show_site_with(EDITION_AT, 1);
     show_site(&[0u8; 511]);
-    show_site(&[1u8; 512]); // the check is wrong
+    show_site(&[1u8; BLOCK_BYTES]); // the check is wrong
     show_site_with(EDITION_AT, 2);
     show_site_with(NUMBER_AT, 1);
-    show_site_with(380, 1); // the first reserved byte
-    show_site_with(32, 25); // 25 hours out
+    show_site_with(SITE_RESERVED_AT, 1); // the first reserved byte
+    show_site_with(HOURS_OUT_AT, 25);
     show_book_with(EDITION_AT, 1);
     show_book(&[0u8; 8703]);
-    show_book(&[1u8; 8704]); // the check is wrong
+    show_book(&[1u8; BOOK_BYTES]); // the check is wrong
     show_book_with(EDITION_AT, 2);
     show_book_with(NUMBER_AT, 15);
-    show_book_with(507, 1); // the last reserved byte
-    show_book_with(376, 0); // no plasma in month 84
-    show_writer(&[0u8; 508]);
+    show_book_with(CHECK_AT - 1, 1); // the last reserved byte
+    show_book_with(FIELDS_AT + 4 * ROW_BYTES + 4, 0); // no plasma in month 84
+    show_writer(&[0u8; CHECK_AT]);
     show_writer(&[0u8; 507]);
 }

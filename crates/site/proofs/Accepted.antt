@@ -15,7 +15,7 @@ use Rattle.numbers.proofs.Refusals.{firstOf-none, unless-none}
 use Rattle.block.specs.Block.{blockRefusal}
 use Rattle.block.proofs.Sealed.{accepted-check}
 use Rattle.site.specs.declared.Scenario.{Scenario}
-use Rattle.site.specs.Fields.{at, limits, single, withinLimits, saturated, sharesFit, fieldsFit}
+use Rattle.site.specs.Fields.{at, limits, single, firstDrawShareIn, fountainShareIn, saturationIn, withinLimits, saturationFits, sharesFit, fieldsFit}
 use Rattle.site.specs.Scenario.{percentagesFrom, scenarioOf, exposureAt}
 use Rattle.site.specs.Limits.{ExposureLimits}
 use Rattle.site.specs.Site.{siteFields, siteRefusal, refusedWith, accepted, answerOf, readSite}
@@ -28,17 +28,17 @@ module _ (fields : List ℕ) (fit : fieldsFit fields ≡ true) where
   unfolding fieldsFit withinLimits
   field-le place h =
       leb-true (at fields place) (at limits place)
-      (every-at (fieldWithin fields) 0 94 (and-left (withinLimits fields) (saturated fields && sharesFit fields) fit) place (omega arith) (omega arith))
+      (every-at (fieldWithin fields) 0 94 (and-left (withinLimits fields) (saturationFits fields && sharesFit fields) fit) place (omega arith) (omega arith))
 
-  rules : saturated fields && sharesFit fields ≡ true
+  rules : saturationFits fields && sharesFit fields ≡ true
   unfolding fieldsFit
-  rules = and-right (withinLimits fields) (saturated fields && sharesFit fields) fit
+  rules = and-right (withinLimits fields) (saturationFits fields && sharesFit fields) fit
 
-  saturation-ge : 1_000_000 ≤ single fields 22
-  saturation-ge = leb-true 1_000_000 (single fields 22) (and-left (saturated fields) (sharesFit fields) rules)
+  saturation-ge : 1_000_000 ≤ saturationIn fields
+  saturation-ge = leb-true 1_000_000 (saturationIn fields) (and-left (saturationFits fields) (sharesFit fields) rules)
 
-  shares-le : single fields 10 + single fields 11 ≤ 100
-  shares-le = leb-true (single fields 10 + single fields 11) 100 (and-right (saturated fields) (sharesFit fields) rules)
+  shares-le : firstDrawShareIn fields + fountainShareIn fields ≤ 100
+  shares-le = leb-true (firstDrawShareIn fields + fountainShareIn fields) 100 (and-right (saturationFits fields) (sharesFit fields) rules)
 
   -- a field in a range of places whose limits are at most v, a test that is computed
   range-le : (v from n : ℕ) → every (λ (place : ℕ). leb (at limits place) v) from n ≡ true → from + n ≤ 94

@@ -1,5 +1,5 @@
 pub mod Fields
-pub mod Laws
-pub mod Limits
 pub mod Scenario
 pub mod Site
+pub mod Limits
+pub mod Laws

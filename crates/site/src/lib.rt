@@ -1,5 +1,8 @@
 // The site file: one block of 94 fields, read into a scenario or refused.
+use block::BLOCK_BYTES;
+use block::FIELDS_AT;
 use block::WRONG_LENGTH;
+use places::FIELDS;
 ghost use mathlib.Core.Path.{_≡_};
 ghost use Rattle.site.specs.Scenario.{dustSourceOf, waterSourceOf, scenarioOf};
 ghost use Rattle.site.specs.Site.{refusedWith, readSite};
@@ -12,13 +15,13 @@ pub mod places;
 const FIELD_LIMIT: u32 = 7;
 
 // A site file is block 0 of edition 1, with bytes used up to the end of its last field.
-pub const SITE_BYTES: usize = 512;
+pub const SITE_BYTES: usize = BLOCK_BYTES;
 
 const SITE_NUMBER: u32 = 0;
 
 const SITE_EDITION: u32 = 1;
 
-const SITE_USED: usize = 380;
+const SITE_USED: usize = FIELDS_AT + 4 * FIELDS;
 
 // Where the dust figure comes from: given, or from soil and air by the multiple source formula.
 pub enum DustSource {
@@ -34,7 +37,7 @@ pub enum WaterSource {
 
 // A site file's fields, with its two modes decoded.
 pub struct Scenario {
-    pub fields: [u32; 94],
+    pub fields: [u32; FIELDS],
     pub dust_source: DustSource,
     pub water_source: WaterSource,
 }
@@ -95,7 +98,7 @@ fn water_source_of(mode: u32) -> WaterSource
 }
 
 // The scenario that fields say.
-pub fn scenario_of(fields: [u32; 94]) -> Scenario
+fn scenario_of(fields: [u32; FIELDS]) -> Scenario
     ensures { λ r. ⌜ r ≡ scenarioOf fields ⌝ }
 {
     let dust_source = dust_source_of(fields[places::DUST_MODE]);
@@ -112,7 +115,7 @@ fn refused_with(refusal: u32) -> SiteRead
     ensures { λ r. ⌜ r ≡ refusedWith refusal ⌝ }
 {
     let scenario = Scenario {
-        fields: [0; 94],
+        fields: [0; FIELDS],
         dust_source: DustSource::Given,
         water_source: WaterSource::Constant,
     };
@@ -130,7 +133,7 @@ pub fn read_site(site: &[u8]) -> SiteRead
     if refusal != 0 {
         return refused_with(refusal);
     }
-    let mut fields = [0u32; 94];
+    let mut fields = [0u32; FIELDS];
     block::read::read_fields(site, &mut fields);
     if limits::fields_fit(fields) {
         let scenario = scenario_of(fields);

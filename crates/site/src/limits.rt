@@ -106,7 +106,7 @@ fn limit_of(place: usize) -> u32
 }
 
 // Is each field at most its limit?
-fn within_limits(fields: [u32; 94]) -> bool
+fn within_limits(fields: [u32; places::FIELDS]) -> bool
     ensures { λ r. ⌜ r ≡ withinLimits fields ⌝ }
 {
     let mut place: usize = 0;
@@ -121,7 +121,7 @@ fn within_limits(fields: [u32; 94]) -> bool
 }
 
 // Are the fields within their limits, saturation's lower end and the rule on the two water shares among them?
-pub fn fields_fit(fields: [u32; 94]) -> bool
+pub fn fields_fit(fields: [u32; places::FIELDS]) -> bool
     ensures { λ r. ⌜ r ≡ fieldsFit fields ⌝ }
 {
     if within_limits(fields) {

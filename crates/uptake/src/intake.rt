@@ -38,7 +38,7 @@ pub fn air_intake(e: Exposure) -> u64
     exposed * e.breathing / AIR_SCALE
 }
 
-// The three water sources by their shares (E-7), in hundredths of pg/mL.
+// The three water sources by their shares (E-6b; the flushed share by E-7), in hundredths of pg/mL.
 fn mixed_water(e: Exposure) -> u64
     requires { ⌜ ExposureLimits e ⌝ }
     ensures { λ r. ⌜ Is (mixedWater e) 1_000_000_000 r ⌝ }
@@ -50,7 +50,7 @@ fn mixed_water(e: Exposure) -> u64
     flushed + first_draw + fountain
 }
 
-// Water (E-6, E-7).
+// Water (E-6a, E-6b).
 pub fn water_intake(e: Exposure) -> u64
     requires { ⌜ ExposureLimits e ⌝ }
     ensures { λ r. ⌜ r ≡ waterIntake e ⌝ }
