@@ -62,12 +62,11 @@ module _ (call : State → MonthAnswer) (kept : (a : State) → (call a .refusal
           list = rw (w, front-length, ← inv .rest) (sym (take-append-drop i l));
         }
 
-    pub run-end : 84 ≤ i → Done (monthsBy call 84 a) l₀ (record { refusal = 0; months = 84; state = b }) l
+    pub run-end : 84 ≤ i → Done (monthsBy call 84 a) l₀ (record { refusal = 0; months = i; state = b }) l
     unfolding monthsBy
     run-end g =
-        let none : 84 - i ≡ 0 = omega arith in
-        let all : i ≡ 84 = omega (arith, inv .reach) in
-        rw all at (done 0 (rw none))
+        let none-left : 84 - i ≡ 0 = omega arith in
+        done 0 (rw none-left)
 
     module _ (g : i < 84) where
       left : 84 - i ≡ suc (84 - (i + 1))

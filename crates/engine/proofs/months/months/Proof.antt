@@ -74,6 +74,9 @@ loop-again c =
     (m .before .loop-test .taken) _ (ap (λ (x : MonthAnswer). x .blood) (m .child-month .ensures)) _ (ap (λ (x : MonthAnswer). x .state) (m .child-month .ensures))
     (ap (λ (x : MonthAnswer). x .refusal) (sym (m .child-month .ensures)) ∙ c .before .if1 .left)
 
+cast-all : tie.Need-cast-all Inv-loop μ-loop
+cast-all c = omega (arith, c .before .loop .inv .reach)
+
 same-length-2 : tie.Need-same-length-2 Inv-loop μ-loop
 same-length-2 c = c .before .loop .inv .long ∙ sym (c .before .before .before .before .pre .1 .1)
 
@@ -103,5 +106,6 @@ months-spec =
     add-done
     loop-less
     loop-again
+    cast-all
     same-length-2
     returns-2)
