@@ -26,7 +26,7 @@ pub stay : (a : State) → Balanced a a [] 0
 stay a = record { lead = omega arith; urine = omega arith; faeces = omega arith; skin = omega arith; margins = tt }
 
 module _ (r : Rates) (a : State) (u : ℕ) (limits : RateLimits r) where
-  step-conserves : burden (next r a u .lead) + exitSum (exits r (a .lead) u) ≡ burden (a .lead) + u
+  pub step-conserves : burden (next r a u .lead) + exitSum (exits r (a .lead) u) ≡ burden (a .lead) + u
   step-conserves = let k = step-law r a u limits in rw (k .lead) (k .law .conserved)
 
   pub one : Balanced a (next r a u) (record { before = a; rates = r; uptake = u } ∷ []) u

@@ -2,12 +2,13 @@
 -- Assumes nothing.
 use Prim.Native.Nat.{_-_}
 use borrow.Author.Needs.{needs}
-use Rattle.engine.proofs.Loops.{InMonth, month-start, month-ready, month-refused, month-next, month-end}
+use Rattle.engine.specs.Steps.{daysShares}
+use Rattle.engine.proofs.Loops.{Ahead, month-start, month-ready, month-refused, month-next, month-end}
 use Rattle.engine.proofs.steps.days.Statement.{statement}
 use Rattle.engine.proofs.steps.days.Tie as tie
 
 abbrev Inv-loop : tie.InvT-loop
-Inv-loop rates prepared s t here₀ d₀ here d = InMonth rates here₀ s t here d
+Inv-loop rates prepared s t here₀ d₀ here d = Ahead rates here₀ (daysShares s t 30) here (daysShares s t (30 - d))
 
 abbrev μ-loop : tie.MeasureT-loop
 μ-loop rates prepared s t here₀ d₀ here d = 30 - d
