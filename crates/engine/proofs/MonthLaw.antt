@@ -27,16 +27,12 @@ use Rattle.engine.specs.Conservation.{Month, Balanced, WholeMonth, daily
 use Rattle.engine.specs.Ready.{Decoded}
 use Rattle.engine.proofs.Shares.{days-total, days-length, sumOf}
 use Rattle.engine.proofs.Passed.{decoded, Sound, passed-sound, passed-before}
+use Rattle.engine.proofs.Calls.{answer-refusal, birth-answer-refusal}
 use Rattle.engine.proofs.Course.{chain-to, steps-chain, steps-count, steps-uptake, steps-balance, steps-within}
 
 -- the state that an accepted call answers, with the compartments and ledgers of the state that its steps left
 abbrev ended : State → State → State
 ended a last = record { month = monthAfter a; lead = last .lead; ledgers = last .ledgers }
-
--- what a call answers, by its refusal
-answer-refusal : (r : ℕ) (a last : State) (row : Row) → monthAnswer r a last row .refusal ≡ r
-answer-refusal zero a last row = refl
-answer-refusal (suc r) a last row = refl
 
 module _ (s : ℕ) (a : State) (f : Files) where
   pub month-refusal : monthOf s a f .refusal ≡ monthRefusal s a f
@@ -146,14 +142,10 @@ month-sound s pos a f sound = by (monthRefusal s a f) refl
     by (suc r) e = rw (month-kept s a f r e) sound
 
 -- an accepted birth
-birth-refusal : (r : ℕ) (child : State) → birthAnswer r child .refusal ≡ r
-birth-refusal zero child = refl
-birth-refusal (suc r) child = refl
-
 module _ (f : Files) (accepted : birthOf f .refusal ≡ 0) where
   birth-accepted : birthRefusal f ≡ 0
   unfolding birthOf
-  birth-accepted = sym (birth-refusal (birthRefusal f) _) ∙ accepted
+  birth-accepted = sym (birth-answer-refusal (birthRefusal f) _) ∙ accepted
 
   birth-none : (k : ℕ) → getD (filesRefusal f ∷ newbornRefusal (scenarioIn f) (tableIn f) ∷ []) k 0 ≡ 0
   unfolding birthRefusal

@@ -48,10 +48,8 @@ returns c =
     let m = c .before in
     let l = m .before .before in
     let a = l .before .before .before .args in
-    let d =
     run-stop (call (a .scenario) (now (a .table))) (child-kept 6 (a .scenario) (now (a .table))) (a .state) _ _ (l .loop .here) (l .loop .done) (l .loop .inv)
-    (m .before .loop-test .taken) _ (ap (λ (x : MonthAnswer). x .refusal) (sym (m .child-month .ensures))) (c .if1 .taken) in
-    (d .answer, d .list)
+    (m .before .loop-test .taken) _ (ap (λ (x : MonthAnswer). x .refusal) (sym (m .child-month .ensures))) (c .if1 .taken)
 
 mul-blood : tie.Need-mul-blood Inv-loop μ-loop
 mul-blood c = search needs
@@ -85,10 +83,8 @@ unfolding childRun
 returns-2 c =
     let l = c .before in
     let a = l .before .before .before .args in
-    let d =
     run-end (call (a .scenario) (now (a .table))) (child-kept 6 (a .scenario) (now (a .table))) (a .state) _ _ (l .loop .here) (l .loop .done) (l .loop .inv)
-    (c .loop-test .left) in
-    (d .answer, d .list)
+    (c .loop-test .left)
 
 pub months-spec : {M : Type 1} → statement M
 months-spec =
