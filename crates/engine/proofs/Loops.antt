@@ -129,7 +129,7 @@ module _ {r : Rates} {q : Prepared} {a : State} {s t more : ℕ} (ready : Steppa
   day-start = rw sub-zero (ahead-start r a (dayShares s t) (ready .held))
 
   -- at step k the state is b
-  module _ (b : State) (k : ℕ) (now : Ahead r a (dayShares s t) b (sharesFrom s t k (s - k))) where
+  module _ {b : State} (k : ℕ) (now : Ahead r a (dayShares s t) b (sharesFrom s t k (s - k))) where
     no-share-ahead : s ≤ k → Ahead r a (dayShares s t) b []
     unfolding sharesFrom
     no-share-ahead h = let e : s - k ≡ 0 = omega arith in rw e at now
@@ -174,7 +174,7 @@ module _ {r : Rates} {q : Prepared} {a : State} {s t : ℕ} (ready : Steppable r
   month-start = ahead-start r a (daysShares s t 30) (ready .held)
 
   -- at day d the state is b
-  module _ (b : State) (d : ℕ) (now : Ahead r a (daysShares s t 30) b (daysShares s t (30 - d))) where
+  module _ {b : State} (d : ℕ) (now : Ahead r a (daysShares s t 30) b (daysShares s t (30 - d))) where
     no-day-ahead : 30 ≤ d → daysShares s t (30 - d) ≡ []
     unfolding daysShares
     no-day-ahead h = let e : 30 - d ≡ 0 = omega arith in rw e
@@ -215,7 +215,7 @@ module _ {r : Rates} {q : Prepared} {a : State} {s t : ℕ} (ready : Steppable r
           }
 
       -- what the day that starts at b came to
-      module _ (x : Reached) (day : ReachedBy r b (dayShares s t) t x) where
+      module _ {x : Reached} (day : ReachedBy r b (dayShares s t) t x) where
         pub month-refused : (x .refusal ≡ 0 → ⊥) → ReachedBy r a (daysShares s t 30) (30 * t) x
         month-refused z = turn-refused r (dayShares s t) later day-ahead day z (30 * t)
 

@@ -36,57 +36,61 @@ refused-ends r m x = nonzero (λ n. andThen n m x ≡ ended n [] (m .state)) (λ
 abbrev pub Done : Ran → List ℕ → RunAnswer → List ℕ → Type 0
 Done ran l₀ x l = (x ≡ runAnswer ran) × (l ≡ runList ran l₀)
 
-module _ (call : State → MonthAnswer) (kept : (a : State) → (call a .refusal ≡ 0 → ⊥) → call a .state ≡ a) (a : State) where
-  -- at month i the state is b and the list l, which was l₀
-  pub record InRun (l₀ l : List ℕ) (b : State) (i : ℕ) : Type 0 where
-    pub reach : i ≤ 84
-    pub long : length l ≡ 84
-    pub same : monthsBy call 84 a ≡ prefixed (take i l) (monthsBy call (84 - i) b)
-    pub rest : drop i l ≡ drop i l₀
+-- a run from a is at month i: the state is b, and the list, which was l₀, is l
+pub record InRun (call : State → MonthAnswer) (a : State) (l₀ l : List ℕ) (b : State) (i : ℕ) : Type 0 where
+  pub reach : i ≤ 84
+  pub long : length l ≡ 84
+  pub same : monthsBy call 84 a ≡ prefixed (take i l) (monthsBy call (84 - i) b)
+  pub rest : drop i l ≡ drop i l₀
 
-  pub run-start : (l : List ℕ) → length l ≡ 84 → InRun l l a 0
-  run-start l h = record { reach = omega arith; long = h; same = refl; rest = refl }
+pub run-start : (call : State → MonthAnswer) (a : State) (l : List ℕ) → length l ≡ 84 → InRun call a l l a 0
+run-start call a l h = record { reach = omega arith; long = h; same = refl; rest = refl }
 
-  module _ (l₀ l : List ℕ) (b : State) (i : ℕ) (inv : InRun l₀ l b i) where
-    written-length : length (take i l) ≡ i
-    written-length = length-take-le i l (omega (arith, inv .reach, inv .long))
+module _ {call : State → MonthAnswer} {a b : State} {l₀ l : List ℕ} {i : ℕ} (inv : InRun call a l₀ l b i) where
+  written-length : length (take i l) ≡ i
+  written-length = length-take-le i l (omega (arith, inv .reach, inv .long))
 
-    ends : (r : ℕ) → monthsBy call (84 - i) b ≡ ended r [] b → Done (monthsBy call 84 a) l₀ (record { refusal = r; months = i; state = b }) l
-    ends r e =
-        let w : monthsBy call 84 a ≡ ended r (take i l) b =
-        inv .same ∙ ap (prefixed (take i l)) e ∙ ap (λ (bs : List ℕ). ended r bs b) (append-nil (take i l)) in
-        (rw (w, written-length), rw (w, written-length, ← inv .rest) (sym (take-append-drop i l)))
+  ends : (r : ℕ) → monthsBy call (84 - i) b ≡ ended r [] b → Done (monthsBy call 84 a) l₀ (record { refusal = r; months = i; state = b }) l
+  ends r e =
+      let w : monthsBy call 84 a ≡ ended r (take i l) b =
+      inv .same ∙ ap (prefixed (take i l)) e ∙ ap (λ (bs : List ℕ). ended r bs b) (append-nil (take i l)) in
+      (rw (w, written-length), rw (w, written-length, ← inv .rest) (sym (take-append-drop i l)))
 
-    pub run-end : 84 ≤ i → Done (monthsBy call 84 a) l₀ (record { refusal = 0; months = i; state = b }) l
-    unfolding monthsBy
-    run-end g =
-        let none-left : 84 - i ≡ 0 = omega arith in
-        ends 0 (rw none-left)
+  pub run-end : 84 ≤ i → Done (monthsBy call 84 a) l₀ (record { refusal = 0; months = i; state = b }) l
+  unfolding monthsBy
+  run-end g =
+      let none-left : 84 - i ≡ 0 = omega arith in
+      ends 0 (rw none-left)
 
-    module _ (g : i < 84) where
-      left : 84 - i ≡ suc (84 - (i + 1))
-      left = omega arith
+  -- the month's answer m, as the code has it
+  module _ (g : i < 84) {m : MonthAnswer} (em : m ≡ call b) where
+    later : Ran
+    later = monthsBy call (84 - (i + 1)) (m .state)
 
-      pub run-stop : (r : ℕ) → call b .refusal ≡ r → (r ≡ 0 → ⊥) → Done (monthsBy call 84 a) l₀ (record { refusal = r; months = i; state = b }) l
-      unfolding monthsBy
-      run-stop r e z =
-          let after = monthsBy call (84 - (i + 1)) (call b .state) in
-          ends r
-          (rw left
-          (ap (λ (n : ℕ). andThen n (call b) after) e ∙ refused-ends r (call b) after z ∙ ap (ended r []) (kept b (λ c. z (sym e ∙ c)))))
+    month-ahead : monthsBy call (84 - i) b ≡ andThen (m .refusal) m later
+    unfolding monthsBy later
+    month-ahead =
+        let left : 84 - i ≡ suc (84 - (i + 1)) = omega arith in
+        rw left (ap (λ (x : MonthAnswer). andThen (x .refusal) x (monthsBy call (84 - (i + 1)) (x .state))) (sym em))
 
-      pub run-next : (v : ℕ) → v ≡ call b .blood → (c : State) → c ≡ call b .state → call b .refusal ≡ 0 → InRun l₀ (set l i v) c (i + 1)
-      unfolding monthsBy
-      run-next v ev c ec e =
-          let t : take (i + 1) (set l i v) ≡ take i l ++ (v ∷ []) = rw add-one (take-suc-set l i v (omega (arith, inv .long))) in
-          let next : monthsBy call (84 - i) b ≡ prefixed (v ∷ []) (monthsBy call (84 - (i + 1)) c) = rw (left, e, ← ev, ← ec) in
-          let d : drop (i + 1) l ≡ drop (i + 1) l₀ = sym (drop-drop 1 i l) ∙ ap (drop 1) (inv .rest) ∙ drop-drop 1 i l₀ in
-          record {
-            reach = omega arith;
-            long = length-set l i v ∙ inv .long;
-            same = rw (t, append-assoc) (inv .same ∙ ap (prefixed (take i l)) next);
-            rest = drop-set-lt (i + 1) l i v (omega arith) ∙ d;
-          }
+    pub run-stop : ((c : State) → (call c .refusal ≡ 0 → ⊥) → call c .state ≡ c) → (m .refusal ≡ 0 → ⊥)
+        → Done (monthsBy call 84 a) l₀ (record { refusal = m .refusal; months = i; state = b }) l
+    run-stop kept z =
+        let same : m .state ≡ b = rw em (kept b (rw em at z)) in
+        ends (m .refusal) (month-ahead ∙ refused-ends (m .refusal) m later z ∙ ap (ended (m .refusal) []) same)
+
+    pub run-next : m .refusal ≡ 0 → InRun call a l₀ (set l i (m .blood)) (m .state) (i + 1)
+    unfolding later
+    run-next z =
+        let v = m .blood in
+        let written : take (i + 1) (set l i v) ≡ take i l ++ (v ∷ []) = rw add-one (take-suc-set l i v (omega (arith, inv .long))) in
+        let kept : drop (i + 1) l ≡ drop (i + 1) l₀ = sym (drop-drop 1 i l) ∙ ap (drop 1) (inv .rest) ∙ drop-drop 1 i l₀ in
+        record {
+          reach = omega arith;
+          long = length-set l i v ∙ inv .long;
+          same = rw (written, append-assoc) (inv .same ∙ ap (prefixed (take i l)) (month-ahead ∙ ap (λ (n : ℕ). andThen n m later) z));
+          rest = drop-set-lt (i + 1) l i v (omega arith) ∙ kept;
+        }
 
 -- a refused month returns the state it was given
 pub child-kept : (s : ℕ) (scenario : Scenario) (table : List ℕ) (a : State) → (childMonth s a scenario table .refusal ≡ 0 → ⊥) → childMonth s a scenario table .state ≡ a

@@ -28,19 +28,19 @@ burden-of-requires c κs = c .before .before .loop .inv .held
 add-if1 : tie.Need-add-if1 Inv-loop μ-loop
 add-if1 c =
     let l = c .before .before .before in
-    omega (arith, day-sum-fits (l .before .pre) (l .loop .here) (l .loop .k) (l .loop .inv) (c .before .before .loop-test .taken) (c .burden-of .ensures) (c .before .share .ensures))
+    omega (arith, day-sum-fits (l .before .pre) (l .loop .k) (l .loop .inv) (c .before .before .loop-test .taken) (c .burden-of .ensures) (c .before .share .ensures))
 
 returns : tie.Need-returns Inv-loop μ-loop
 returns c =
     let b = c .before in
     let l = b .before .before .before in
-    day-refused (l .before .pre) (l .loop .here) (l .loop .k) (l .loop .inv) (b .before .before .loop-test .taken) (b .burden-of .ensures) (b .before .share .ensures) (c .if1 .taken)
+    day-refused (l .before .pre) (l .loop .k) (l .loop .inv) (b .before .before .loop-test .taken) (b .burden-of .ensures) (b .before .share .ensures) (c .if1 .taken)
 
 step-requires : tie.Need-step-requires Inv-loop μ-loop
 step-requires c κs =
     let b = c .before in
     let l = b .before .before .before in
-    day-ready (l .before .pre) (l .loop .here) (l .loop .k) (l .loop .inv) (b .before .before .loop-test .taken) (b .burden-of .ensures) (b .before .share .ensures) (omega arith) (c .if1 .left)
+    day-ready (l .before .pre) (l .loop .k) (l .loop .inv) (b .before .before .loop-test .taken) (b .burden-of .ensures) (b .before .share .ensures) (omega arith) (c .if1 .left)
 
 add-k : tie.Need-add-k Inv-loop μ-loop
 add-k c = search needs
@@ -52,10 +52,10 @@ loop-again : tie.Need-loop-again Inv-loop μ-loop
 loop-again c =
     let b = c .before .before in
     let l = b .before .before .before in
-    day-next (l .before .pre) (l .loop .here) (l .loop .k) (l .loop .inv) (b .before .before .loop-test .taken) (b .burden-of .ensures) (b .before .share .ensures) (c .before .if1 .left) _ (c .step .ensures)
+    day-next (l .before .pre) (l .loop .k) (l .loop .inv) (b .before .before .loop-test .taken) (b .burden-of .ensures) (b .before .share .ensures) (c .before .if1 .left) _ (c .step .ensures)
 
 returns-2 : tie.Need-returns-2 Inv-loop μ-loop
-returns-2 c = day-end (c .before .before .pre) (c .before .loop .here) (c .before .loop .k) (c .before .loop .inv) (c .loop-test .left)
+returns-2 c = day-end (c .before .before .pre) (c .before .loop .k) (c .before .loop .inv) (c .loop-test .left)
 
 pub day-spec : {M : Type 1} → statement M
 day-spec =
