@@ -77,7 +77,7 @@ weights-within d {m} h er e24 =
     })
 
 -- T by what the code reads
-pub taken-uptake : (scenario : Scenario) (table : List ℕ) (m : ℕ) {e : Exposure} → e ≡ exposureIn scenario m → {row row24 : Row} → row ≡ rowOf table m
+taken-uptake : (scenario : Scenario) (table : List ℕ) (m : ℕ) {e : Exposure} → e ≡ exposureIn scenario m → {row row24 : Row} → row ≡ rowOf table m
     → row24 ≡ rowOf table 24 → dayUptake e (row .«body_weight») (row24 .«body_weight») ≡ monthUptake scenario table m
 unfolding monthUptake
 taken-uptake scenario table m ee er e24 = rw (ee, er, e24)
@@ -98,10 +98,11 @@ module _ (s : ℕ) (a : State) (scenario : Scenario) (table : List ℕ) where
   unfolding monthFrom
   month-intake-refused r e h = rw (← e, orElse-first r _ h) (refused-answer r a _ _ h)
 
-  pub month-stepped : intakeRefusal (exposureIn scenario (monthAfter a)) ≡ 0 → (row : Row) → row ≡ rowOf table (monthAfter a) → (t : ℕ)
-      → t ≡ monthUptake scenario table (monthAfter a) → steppedMonth s a row t ≡ monthFrom s a scenario table
+  pub month-stepped : intakeRefusal (exposureIn scenario (monthAfter a)) ≡ 0 → {e : Exposure} → e ≡ exposureIn scenario (monthAfter a)
+      → {row row24 : Row} → row ≡ rowOf table (monthAfter a) → row24 ≡ rowOf table 24 → {t : ℕ} → t ≡ dayUptake e (row .«body_weight») (row24 .«body_weight»)
+      → steppedMonth s a row t ≡ monthFrom s a scenario table
   unfolding steppedMonth monthFrom monthLast monthShares
-  month-stepped z row er t et = rw (z, er, et)
+  month-stepped z ee er e24 et = rw (z, et ∙ taken-uptake scenario table (monthAfter a) ee er e24, er)
 
   -- refusals 20 and 21, and what follows
   pub child-refused : (r : ℕ) → r ≡ stateRefusal a → (r ≡ 0 → ⊥) → refusedMonth r a ≡ childMonth s a scenario table

@@ -51,8 +51,10 @@ unfolding blockRefusal
 block-not-20 block number edition used =
     firstOf-not-20 (_ ∷ _ ∷ _ ∷ _ ∷ []) (
       unless-not-20 (eqb (fieldAt block checkAt) (checkOf block)) 3 refl,
-      (unless-not-20 (eqb (wordAt block editionAt) edition) 4 refl,
-      (unless-not-20 (eqb (wordAt block numberAt) number) 5 refl, (unless-not-20 (zerosFrom block used checkAt) 6 refl, tt))),
+      (
+        unless-not-20 (eqb (wordAt block editionAt) edition) 4 refl,
+        (unless-not-20 (eqb (wordAt block numberAt) number) 5 refl, (unless-not-20 (zerosFrom block used checkAt) 6 refl, tt)),
+      ),
     )
 
 site-not-20 : (site : List ℕ) → Not20 (siteRefusal site)
