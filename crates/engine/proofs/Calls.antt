@@ -117,7 +117,7 @@ module _ (s : ℕ) (a : State) (scenario : Scenario) (table : List ℕ) where
       (sym (orElse-last (stepsRefusal (monthRates table (monthAfter a)) a (monthShares s scenario table (monthAfter a))))))
 
 -- a month call and a birth of files that pass
-pub month-passed : (s : ℕ) (a : State) (f : Files) → filesRefusal f ≡ 0 → childMonth s a (scenarioIn f) (tableIn f) ≡ monthOf s a f
+month-passed : (s : ℕ) (a : State) (f : Files) → filesRefusal f ≡ 0 → childMonth s a (scenarioIn f) (tableIn f) ≡ monthOf s a f
 unfolding monthOf monthRefusal childMonth
 month-passed s a f z =
     rw z

@@ -9,7 +9,6 @@ use lib.ListN.{length, getD}
 use Rattle.numbers.proofs.Refusals.{firstOf-none, unless-none}
 use Rattle.site.specs.Scenario.{motherOf}
 use Rattle.book.specs.declared.Rates.{Rates}
-use Rattle.book.specs.declared.Row.{Row}
 use Rattle.book.specs.Row.{rowOf}
 use Rattle.book.specs.Limits.{RateLimits}
 use Rattle.uptake.specs.Age.{ageOf}
@@ -21,8 +20,8 @@ use Rattle.kinetics.proofs.Newborn.{birth-law}
 use Rattle.engine.specs.Files.{Files, filesRefusal, scenarioIn, tableIn}
 use Rattle.engine.specs.State.{lastMonth, stateRefusal}
 use Rattle.engine.specs.Steps.{stepsFrom, lastFrom, stepsRefusal}
-use Rattle.engine.specs.Birth.{newborn, newbornRefusal, birthRefusal, birthAnswer, birthOf}
-use Rattle.engine.specs.Month.{monthAfter, exposureIn, monthUptake, monthRates, monthShares, monthAnswer, childRefusal, monthLast, monthRefusal, monthOf}
+use Rattle.engine.specs.Birth.{newborn, newbornRefusal, birthRefusal, birthOf}
+use Rattle.engine.specs.Month.{monthAfter, exposureIn, monthUptake, monthRates, monthShares, childRefusal, monthLast, monthRefusal, monthOf}
 use Rattle.engine.specs.Conservation.{Month, Balanced, WholeMonth, dailyOf, stepsOf}
 use Rattle.engine.specs.Ready.{Decoded}
 use Rattle.engine.proofs.Shares.{days-total, days-length, sumOf}
