@@ -20,9 +20,9 @@ use Rattle.engine.proofs.StateCheck.{cap}
 
 -- reading the files: refused by a length, by the site file, or read as the book says
 module _ (f : Files) (table : List ℕ) (scenario : Scenario) {lengths : ℕ} (el : lengths ≡ lengthRefusal f) where
-  pub files-length : (lengths ≡ 0 → ⊥) → FilesDone f table (record { refusal = lengths; scenario = scenario })
+  pub files-refused-by-length : (lengths ≡ 0 → ⊥) → FilesDone f table (record { refusal = lengths; scenario = scenario })
   unfolding filesRefusal
-  files-length h =
+  files-refused-by-length h =
       record {
         refusal = sym (rw (← el) (orElse-first lengths _ h));
         scenario = λ z. absurd (h z);
@@ -30,19 +30,19 @@ module _ (f : Files) (table : List ℕ) (scenario : Scenario) {lengths : ℕ} (e
       }
 
   module _ (long : lengths ≡ 0) {site : ℕ} (es : site ≡ siteRefusal (f .site)) where
-    pub files-site : (site ≡ 0 → ⊥) → FilesDone f table (record { refusal = site; scenario = scenario })
+    pub files-refused-by-site : (site ≡ 0 → ⊥) → FilesDone f table (record { refusal = site; scenario = scenario })
     unfolding filesRefusal
-    files-site h =
+    files-refused-by-site h =
         record {
           refusal = sym (rw (sym el ∙ long, ← es) (orElse-first site _ h));
           scenario = λ z. absurd (h z);
           table-is = λ z. absurd (h z);
         }
 
-    pub files-book : site ≡ 0 → scenario ≡ scenarioIn f → {book : ℕ} → book ≡ bookRefusal (f .book) → table ≡ bookTable (f .book)
+    pub files-refused-or-read : site ≡ 0 → scenario ≡ scenarioIn f → {book : ℕ} → book ≡ bookRefusal (f .book) → table ≡ bookTable (f .book)
         → FilesDone f table (record { refusal = book; scenario = scenario })
     unfolding filesRefusal
-    files-book z same {book} eb et =
+    files-refused-or-read z same {book} eb et =
         record {
           refusal = sym (rw (sym el ∙ long, sym es ∙ z, ← eb) (orElse-last book));
           scenario = λ e. same;

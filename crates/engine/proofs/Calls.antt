@@ -16,6 +16,7 @@ use Rattle.kinetics.specs.declared.Prepared.{Prepared}
 use Rattle.kinetics.specs.Ready.{Prepares}
 use Rattle.engine.specs.declared.BirthAnswer.{BirthAnswer}
 use Rattle.engine.specs.declared.Reached.{Reached}
+use Rattle.engine.specs.declared.FilesRead.{FilesRead}
 use Rattle.engine.specs.Files.{Files, filesRefusal, scenarioIn, tableIn}
 use Rattle.engine.specs.State.{zeroState, stateRefusal}
 use Rattle.engine.specs.Steps.{daysShares, stepsRefusal}
@@ -24,13 +25,29 @@ use Rattle.engine.specs.Month.{monthAfter, exposureIn, monthUptake, mont
 use Rattle.site.specs.declared.Exposure.{Exposure}
 use Rattle.uptake.specs.Uptake.{dayUptake}
 use Rattle.uptake.specs.Laws.{Weights}
-use Rattle.engine.specs.Ready.{Decoded, Steppable, ReachedBy, steppedMonth, monthFrom, childMonth}
+use Rattle.engine.specs.Ready.{Decoded, Steppable, ReachedBy, FilesDone, steppedMonth, monthFrom, childMonth}
 use Rattle.engine.proofs.Passed.{passed-sound, passed-before}
+use Rattle.engine.proofs.Accepted.{files-passed, read-as}
 
--- a number that is not 0 is answered as a refusal
-refused-answer : (r : ℕ) (a last : State) (row : Row) → (r ≡ 0 → ⊥) → refusedMonth r a ≡ monthAnswer r a last row
-refused-answer zero a last row h = absurd (h refl)
-refused-answer (suc r) a last row h = refl
+-- what holds of each number above 0 holds of one that is not 0
+pub nonzero : (P : ℕ → Type 0) → ((n : ℕ) → P (suc n)) → (r : ℕ) → (r ≡ 0 → ⊥) → P r
+nonzero P h zero z = absurd (z refl)
+nonzero P h (suc n) z = h n
+
+-- what a month and a birth answer, by the number
+pub refused-answer : (r : ℕ) (a last : State) (row : Row) → (r ≡ 0 → ⊥) → refusedMonth r a ≡ monthAnswer r a last row
+refused-answer r a last row = nonzero (λ n. refusedMonth n a ≡ monthAnswer n a last row) (λ n. refl) r
+
+pub answer-refusal : (r : ℕ) (a last : State) (row : Row) → monthAnswer r a last row .refusal ≡ r
+answer-refusal zero a last row = refl
+answer-refusal (suc r) a last row = refl
+
+refused-birth : (r : ℕ) (child : State) → (r ≡ 0 → ⊥) → _≡_ {A = BirthAnswer} (record { refusal = r; state = zeroState }) (birthAnswer r child)
+refused-birth r child = nonzero (λ n. _≡_ {A = BirthAnswer} (record { refusal = n; state = zeroState }) (birthAnswer n child)) (λ n. refl) r
+
+pub birth-answer-refusal : (r : ℕ) (child : State) → birthAnswer r child .refusal ≡ r
+birth-answer-refusal zero child = refl
+birth-answer-refusal (suc r) child = refl
 
 -- thirty days of six steps can be taken from a state that a month can follow
 pub month-steppable : {row : Row} {q : Prepared} (a : State) {t : ℕ} → stateRefusal a ≡ 0 → RowLimits row → Prepares (row .rates) q → t ≤ 6_000_000_000
@@ -60,7 +77,7 @@ weights-within d {m} h er e24 =
     })
 
 -- T by what the code reads
-pub taken-uptake : (scenario : Scenario) (table : List ℕ) (m : ℕ) {e : Exposure} → e ≡ exposureIn scenario m → {row row24 : Row} → row ≡ rowOf table m
+taken-uptake : (scenario : Scenario) (table : List ℕ) (m : ℕ) {e : Exposure} → e ≡ exposureIn scenario m → {row row24 : Row} → row ≡ rowOf table m
     → row24 ≡ rowOf table 24 → dayUptake e (row .«body_weight») (row24 .«body_weight») ≡ monthUptake scenario table m
 unfolding monthUptake
 taken-uptake scenario table m ee er e24 = rw (ee, er, e24)
@@ -81,10 +98,11 @@ module _ (s : ℕ) (a : State) (scenario : Scenario) (table : List ℕ) where
   unfolding monthFrom
   month-intake-refused r e h = rw (← e, orElse-first r _ h) (refused-answer r a _ _ h)
 
-  pub month-stepped : intakeRefusal (exposureIn scenario (monthAfter a)) ≡ 0 → (row : Row) → row ≡ rowOf table (monthAfter a) → (t : ℕ)
-      → t ≡ monthUptake scenario table (monthAfter a) → steppedMonth s a row t ≡ monthFrom s a scenario table
+  pub month-stepped : intakeRefusal (exposureIn scenario (monthAfter a)) ≡ 0 → {e : Exposure} → e ≡ exposureIn scenario (monthAfter a)
+      → {row row24 : Row} → row ≡ rowOf table (monthAfter a) → row24 ≡ rowOf table 24 → {t : ℕ} → t ≡ dayUptake e (row .«body_weight») (row24 .«body_weight»)
+      → steppedMonth s a row t ≡ monthFrom s a scenario table
   unfolding steppedMonth monthFrom monthLast monthShares
-  month-stepped z row er t et = rw (z, er, et)
+  month-stepped z ee er e24 et = rw (z, et ∙ taken-uptake scenario table (monthAfter a) ee er e24, er)
 
   -- refusals 20 and 21, and what follows
   pub child-refused : (r : ℕ) → r ≡ stateRefusal a → (r ≡ 0 → ⊥) → refusedMonth r a ≡ childMonth s a scenario table
@@ -98,31 +116,33 @@ module _ (s : ℕ) (a : State) (scenario : Scenario) (table : List ℕ) where
       (ap (λ (n : ℕ). monthAnswer (orElse (intakeRefusal (exposureIn scenario (monthAfter a))) n) a (monthLast s a scenario table) (rowOf table (monthAfter a)))
       (sym (orElse-last (stepsRefusal (monthRates table (monthAfter a)) a (monthShares s scenario table (monthAfter a))))))
 
--- the files' refusals, and what follows
-module _ (s : ℕ) (a : State) (f : Files) where
-  pub month-files-refused : (r : ℕ) → r ≡ filesRefusal f → (r ≡ 0 → ⊥) → refusedMonth r a ≡ monthOf s a f
+-- a month call and a birth of files that pass
+month-passed : (s : ℕ) (a : State) (f : Files) → filesRefusal f ≡ 0 → childMonth s a (scenarioIn f) (tableIn f) ≡ monthOf s a f
+unfolding monthOf monthRefusal childMonth
+month-passed s a f z =
+    rw z
+    (ap (λ (n : ℕ). monthAnswer n a (monthLast s a (scenarioIn f) (tableIn f)) (rowOf (tableIn f) (monthAfter a)))
+    (sym (orElse-last (childRefusal s a (scenarioIn f) (tableIn f)))))
+
+birth-passed : (f : Files) → filesRefusal f ≡ 0 → birthAnswer (newbornRefusal (scenarioIn f) (tableIn f)) (newborn (scenarioIn f) (tableIn f)) ≡ birthOf f
+unfolding birthOf birthRefusal
+birth-passed f z =
+    rw z
+    (ap (λ (n : ℕ). birthAnswer n (newborn (scenarioIn f) (tableIn f))) (sym (orElse-last (newbornRefusal (scenarioIn f) (tableIn f)))))
+
+-- and by what reading their files came to
+module _ {f : Files} {table : List ℕ} {x : FilesRead} (read : FilesDone f table x) where
+  pub month-files-refused : (s : ℕ) (a : State) → (x .refusal ≡ 0 → ⊥) → refusedMonth (x .refusal) a ≡ monthOf s a f
   unfolding monthOf monthRefusal
-  month-files-refused r e h = rw (← e, orElse-first r _ h) (refused-answer r a _ _ h)
+  month-files-refused s a h = rw (← read .refusal, orElse-first (x .refusal) _ h) (refused-answer (x .refusal) a _ _ h)
 
-  pub month-passed : filesRefusal f ≡ 0 → childMonth s a (scenarioIn f) (tableIn f) ≡ monthOf s a f
-  unfolding monthOf monthRefusal childMonth
-  month-passed z =
-      rw z
-      (ap (λ (n : ℕ). monthAnswer n a (monthLast s a (scenarioIn f) (tableIn f)) (rowOf (tableIn f) (monthAfter a)))
-      (sym (orElse-last (childRefusal s a (scenarioIn f) (tableIn f)))))
+  pub month-files-read : (s : ℕ) (a : State) → x .refusal ≡ 0 → childMonth s a (x .scenario) table ≡ monthOf s a f
+  month-files-read s a z = read-as read z (childMonth s a) ∙ month-passed s a f (files-passed read z)
 
-module _ (f : Files) where
-  refused-birth : (r : ℕ) (child : State) → (r ≡ 0 → ⊥) → _≡_ {A = BirthAnswer} (record { refusal = r; state = zeroState }) (birthAnswer r child)
-  refused-birth zero child h = absurd (h refl)
-  refused-birth (suc r) child h = refl
-
-  pub birth-files-refused : (r : ℕ) → r ≡ filesRefusal f → (r ≡ 0 → ⊥) → (none : State) → none ≡ zeroState
-      → _≡_ {A = BirthAnswer} (record { refusal = r; state = none }) (birthOf f)
+  pub birth-files-refused : (x .refusal ≡ 0 → ⊥) → (a : State) → a ≡ zeroState
+      → _≡_ {A = BirthAnswer} (record { refusal = x .refusal; state = a }) (birthOf f)
   unfolding birthOf birthRefusal
-  birth-files-refused r e h none ez = rw (← e, orElse-first r _ h, ez) (refused-birth r _ h)
+  birth-files-refused h a ez = rw (← read .refusal, orElse-first (x .refusal) _ h, ez) (refused-birth (x .refusal) _ h)
 
-  pub birth-passed : filesRefusal f ≡ 0 → birthAnswer (newbornRefusal (scenarioIn f) (tableIn f)) (newborn (scenarioIn f) (tableIn f)) ≡ birthOf f
-  unfolding birthOf birthRefusal
-  birth-passed z =
-      rw z
-      (ap (λ (n : ℕ). birthAnswer n (newborn (scenarioIn f) (tableIn f))) (sym (orElse-last (newbornRefusal (scenarioIn f) (tableIn f)))))
+  pub birth-files-read : x .refusal ≡ 0 → birthAnswer (newbornRefusal (x .scenario) table) (newborn (x .scenario) table) ≡ birthOf f
+  birth-files-read z = read-as read z (λ scenario l. birthAnswer (newbornRefusal scenario l) (newborn scenario l)) ∙ birth-passed f (files-passed read z)

@@ -1,4 +1,4 @@
--- Steps one after the other: balances join, and what a list of steps leaves.
+-- Steps one after the other: they balance, and what a list of steps leaves.
 -- Assumes nothing.
 use Prim.Native.Nat.{ℕ, suc, _+_, _≤_}
 use mathlib.Core.Path.{_≡_, refl, ap, _∙_}
@@ -21,22 +21,22 @@ use Rattle.engine.specs.Conservation.{Chain, Balanced}
 use Rattle.numbers.proofs.Lists.{total-append, each-append}
 use Rattle.engine.proofs.Shares.{sumOf}
 
--- balances: no step, one step, and the steps of two balances
-pub stay : (a : State) → Balanced a a [] 0
-stay a = record { lead = omega arith; urine = omega arith; faeces = omega arith; skin = omega arith; margins = tt }
+-- balances: of no step, of one step, and of two lists of steps
+pub no-step-balanced : (a : State) → Balanced a a [] 0
+no-step-balanced a = record { lead = omega arith; urine = omega arith; faeces = omega arith; skin = omega arith; margins = tt }
 
 module _ (r : Rates) (a : State) (u : ℕ) (limits : RateLimits r) where
-  step-conserves : burden (next r a u .lead) + exitSum (exits r (a .lead) u) ≡ burden (a .lead) + u
+  pub step-conserves : burden (next r a u .lead) + exitSum (exits r (a .lead) u) ≡ burden (a .lead) + u
   step-conserves = let k = step-law r a u limits in rw (k .lead) (k .law .conserved)
 
-  pub one : Balanced a (next r a u) (record { before = a; rates = r; uptake = u } ∷ []) u
-  one =
+  pub step-balanced : Balanced a (next r a u) (record { before = a; rates = r; uptake = u } ∷ []) u
+  step-balanced =
       let k = step-law r a u limits in
       let c = step-conserves in
       record { lead = omega arith; urine = omega arith; faeces = omega arith; skin = omega arith; margins = (k .law .margin, tt) }
 
-pub join : {a b c : State} (xs ys : List Step) {t u : ℕ} → Balanced a b xs t → Balanced b c ys u → Balanced a c (xs ++ ys) (t + u)
-join xs ys p q =
+pub balanced-append : {a b c : State} (xs ys : List Step) {t u : ℕ} → Balanced a b xs t → Balanced b c ys u → Balanced a c (xs ++ ys) (t + u)
+balanced-append xs ys p q =
     let eu = total-append (λ (x : Step). exitsOf x .urine) xs ys in
     let ef = total-append (λ (x : Step). exitsOf x .faeces) xs ys in
     let es = total-append (λ (x : Step). exitsOf x .skin) xs ys in
@@ -73,8 +73,8 @@ module _ (rates : State → Rates) where
   module _ (limits : (b : State) → RateLimits (rates b)) where
     pub steps-balance : (a : State) (us : List ℕ) → Balanced a (lastFrom rates a us) (stepsFrom rates a us) (sumOf us)
     unfolding stepsFrom lastFrom
-    steps-balance a [] = stay a
-    steps-balance a (u ∷ us) = join (_ ∷ []) _ (one (rates a) a u (limits a)) (steps-balance (next (rates a) a u) us)
+    steps-balance a [] = no-step-balanced a
+    steps-balance a (u ∷ us) = balanced-append (_ ∷ []) _ (step-balanced (rates a) a u (limits a)) (steps-balance (next (rates a) a u) us)
 
     -- where no step is refused, the burden stays within its limit
     pub steps-within :

@@ -14,7 +14,7 @@ use Rattle.engine.specs.Conservation.{Month, dailyOf, stepsIn, keep, acc
 use Rattle.engine.specs.Laws.{numbers, StateLaw}
 use Rattle.engine.proofs.Passed.{Sound}
 use Rattle.engine.proofs.Never20.{month-not-20}
-use Rattle.engine.proofs.Course.{stay, join}
+use Rattle.engine.proofs.Course.{no-step-balanced, balanced-append}
 use Rattle.engine.proofs.MonthLaw.{Accepted, month-refusal, month-kept, month-accepted, month-sound, birth-sound}
 
 -- accepted months, the first from a, each later one from what the one before answered
@@ -25,50 +25,50 @@ Linked s a (m ∷ ms) = (m .before ≡ a) × (Accepted s m × Linked s (m .after
 abbrev takenIn : List Month → ℕ
 takenIn ms = totalOf (λ (m : Month). 30 * dailyOf m) ms
 
-whole : (s : ℕ) (a : State) (ms : List Month) → Linked s a ms → Each (WholeMonth s) ms
-whole s a [] l = tt
-whole s a (m ∷ ms) l = (l .1 .0 .whole, whole s (m .after) ms (l .1 .1))
+linked-whole : (s : ℕ) (a : State) (ms : List Month) → Linked s a ms → Each (WholeMonth s) ms
+linked-whole s a [] l = tt
+linked-whole s a (m ∷ ms) l = (l .1 .0 .whole, linked-whole s (m .after) ms (l .1 .1))
 
 -- d is what the specification's lists answer past their end
 module _ (s : ℕ) (d : State) where
   abbrev endOr : State → List Month → ℕ → State
   endOr a ms i = getD (a ∷ map (λ (m : Month). m .after) ms) i d
 
-  starts : (a : State) (ms : List Month) → Linked s a ms → (i : ℕ) → i < length ms
+  linked-starts : (a : State) (ms : List Month) → Linked s a ms → (i : ℕ) → i < length ms
       → getD (map (λ (m : Month). m .before) ms) i d ≡ endOr a ms i
-  starts a [] l i h = absurd (not-suc-le-zero h)
-  starts a (m ∷ ms) l zero h = l .0
-  starts a (m ∷ ms) l (suc i) h = starts (m .after) ms (l .1 .1) i (le-of-suc-le-suc h)
+  linked-starts a [] l i h = absurd (not-suc-le-zero h)
+  linked-starts a (m ∷ ms) l zero h = l .0
+  linked-starts a (m ∷ ms) l (suc i) h = linked-starts (m .after) ms (l .1 .1) i (le-of-suc-le-suc h)
 
   -- the first j months balance
-  front : (a : State) (ms : List Month) → Linked s a ms → (j : ℕ) → j ≤ length ms
+  first-months-balanced : (a : State) (ms : List Month) → Linked s a ms → (j : ℕ) → j ≤ length ms
       → Balanced a (endOr a ms j) (stepsIn s (take j ms)) (takenIn (take j ms))
-  front a ms l zero h = stay a
-  front a [] l (suc j) h = absurd (not-suc-le-zero h)
-  front a (m ∷ ms) l (suc j) h =
-      rw (← l .0) (join _ _ (l .1 .0 .balance) (front (m .after) ms (l .1 .1) j (le-of-suc-le-suc h)))
+  first-months-balanced a ms l zero h = no-step-balanced a
+  first-months-balanced a [] l (suc j) h = absurd (not-suc-le-zero h)
+  first-months-balanced a (m ∷ ms) l (suc j) h =
+      rw (← l .0) (balanced-append _ _ (l .1 .0 .balance) (first-months-balanced (m .after) ms (l .1 .1) j (le-of-suc-le-suc h)))
 
   -- the months between any two ends balance
-  span : (a : State) (ms : List Month) → Linked s a ms → (i j : ℕ) → i ≤ j → j ≤ length ms
+  months-between-balanced : (a : State) (ms : List Month) → Linked s a ms → (i j : ℕ) → i ≤ j → j ≤ length ms
       → Balanced (endOr a ms i) (endOr a ms j) (stepsIn s (between i j ms)) (takenIn (between i j ms))
-  span a ms l zero j h k = rw sub-zero (front a ms l j k)
-  span a ms l (suc i) zero h k = absurd (not-suc-le-zero h)
-  span a [] l (suc i) (suc j) h k = absurd (not-suc-le-zero k)
-  span a (m ∷ ms) l (suc i) (suc j) h k =
-      rw suc-sub-suc (span (m .after) ms (l .1 .1) i j (le-of-suc-le-suc h) (le-of-suc-le-suc k))
+  months-between-balanced a ms l zero j h k = rw sub-zero (first-months-balanced a ms l j k)
+  months-between-balanced a ms l (suc i) zero h k = absurd (not-suc-le-zero h)
+  months-between-balanced a [] l (suc i) (suc j) h k = absurd (not-suc-le-zero k)
+  months-between-balanced a (m ∷ ms) l (suc i) (suc j) h k =
+      rw suc-sub-suc (months-between-balanced (m .after) ms (l .1 .1) i j (le-of-suc-le-suc h) (le-of-suc-le-suc k))
 
 module _ (s : ℕ) (pos : 0 < s) where
   -- a call before the accepted months ms
-  kept : (a : State) (f : Files) (ms : List Month) → Linked s (monthOf s a f .state) ms
+  linked-after-call : (a : State) (f : Files) (ms : List Month) → Linked s (monthOf s a f .state) ms
       → (r : ℕ) → monthRefusal s a f ≡ r
       → Linked s a (keep r (record { before = a; files = f; after = monthOf s a f .state }) ms)
-  kept a f ms l zero e = (refl, (month-accepted s pos a f e, l))
-  kept a f ms l (suc r) e = rw (month-kept s a f r e) at l
+  linked-after-call a f ms l zero e = (refl, (month-accepted s pos a f e, l))
+  linked-after-call a f ms l (suc r) e = rw (month-kept s a f r e) at l
 
-  linked : (a : State) (calls : List Files) → Linked s a (accepted s a calls)
+  accepted-linked : (a : State) (calls : List Files) → Linked s a (accepted s a calls)
   unfolding accepted
-  linked a [] = tt
-  linked a (f ∷ fs) = kept a f _ (linked (monthOf s a f .state) fs) (monthOf s a f .refusal) (sym (month-refusal s a f))
+  accepted-linked a [] = tt
+  accepted-linked a (f ∷ fs) = linked-after-call a f _ (accepted-linked (monthOf s a f .state) fs) (monthOf s a f .refusal) (sym (month-refusal s a f))
 
   never-20 : (a : State) (calls : List Files) → Sound a → Each (λ (r : ℕ). r ≡ 20 → ⊥) (numbers s a calls)
   unfolding numbers
@@ -80,11 +80,11 @@ pub demand3 : Demand3
 demand3 s pos birth born calls =
     let a = birthOf birth .state in
     let months = accepted s a calls in
-    let l = linked s pos a calls in
+    let l = accepted-linked s pos a calls in
     record {
-      whole = whole s a months l;
-      starts = starts s a a months l;
-      balance = span s a a months l;
+      whole = linked-whole s a months l;
+      starts = linked-starts s a a months l;
+      balance = months-between-balanced s a a months l;
     }
 
 pub state-law : StateLaw

@@ -1,16 +1,15 @@
--- The loops over a day's steps and a month's days: where they begin, what a turn keeps, what is left at the end.
+-- The loops over a day's steps and a month's days: what is ahead at the start, after a turn, and at the end.
 -- Assumes nothing.
 use mathlib.Core.Path.{_≡_, refl, sym, ap, _∙_}
 use mathlib.Core.List.{List, [], _∷_, _++_}
 use Prim.Native.Nat.{ℕ, suc, _+_, _-_, _*_, _≤_, _<_}
-use native.Mathlib.Nat.{sub-zero, mul-le-mul-left}
+use native.Mathlib.Nat.{sub-zero}
 use native.Mathlib.Omega.{arith}
 use borrow.Author.Tests.{le-leb, lt-leb}
 use lib.Dec.{leb}
 use Rattle.numbers.specs.Choice.{unless, orElse}
-use Rattle.numbers.specs.Sums.{sumTo}
+use Rattle.numbers.proofs.Lists.{total-append}
 use Rattle.numbers.proofs.Refusals.{orElse-first, orElse-assoc}
-use Rattle.numbers.proofs.Sums.{sum-next, sum-mono}
 use Rattle.book.specs.declared.Rates.{Rates}
 use Rattle.book.specs.Limits.{RateLimits}
 use Rattle.kinetics.specs.declared.State.{State}
@@ -24,43 +23,21 @@ use Rattle.engine.specs.declared.Reached.{Reached}
 use Rattle.engine.specs.State.{ledgerSum}
 use Rattle.engine.specs.Steps.{sharesFrom, dayShares, daysShares, lastFrom, stepsRefusal}
 use Rattle.engine.specs.Ready.{Steppable, ReachedBy}
+use Rattle.engine.proofs.Shares.{sumOf, day-total, days-total}
+use Rattle.engine.proofs.Course.{step-conserves}
 
 -- all the lead of a state, in the body and in the ledgers
 abbrev account : State → ℕ
 account a = burden (a .lead) + ledgerSum a
 
 -- a step adds its uptake to it
-pub account-next : (r : Rates) (a : State) (u : ℕ) → RateLimits r → account (next r a u) ≡ account a + u
+account-next : (r : Rates) (a : State) (u : ℕ) → RateLimits r → account (next r a u) ≡ account a + u
 account-next r a u limits =
     let l = step-law r a u limits in
-    omega (arith, ap burden (l .lead), l .law .conserved, l .urine, l .faeces, l .skin)
+    omega (arith, step-conserves r a u limits, l .urine, l .faeces, l .skin)
 
-pub burden-next : (r : Rates) (a : State) (u : ℕ) → RateLimits r → burden (next r a u .lead) ≤ burden (a .lead) + u
-burden-next r a u limits =
-    let l = step-law r a u limits in
-    omega (arith, ap burden (l .lead), l .law .bounded)
-
+-- the steps us and then vs
 module _ (rates : State → Rates) where
-  -- steps us from a come to what steps vs from b come to
-  pub record Same (a : State) (us : List ℕ) (b : State) (vs : List ℕ) : Type 0 where
-    pub refusal : stepsRefusal rates a us ≡ stepsRefusal rates b vs
-    pub last : lastFrom rates a us ≡ lastFrom rates b vs
-
-  module _ {a : State} {us : List ℕ} (b : State) (v : ℕ) (vs : List ℕ) (same : Same a us b (v ∷ vs)) where
-    -- a step taken, and a step refused
-    same-step : burden (b .lead) + v ≤ burdenLimit → Same a us (next (rates b) b v) vs
-    unfolding stepsRefusal lastFrom
-    same-step h = record { refusal = rw (le-leb (burden (b .lead) + v) burdenLimit h) at (same .refusal); last = same .last }
-
-    same-stop : burdenLimit < burden (b .lead) + v → stepsRefusal rates a us ≡ 22
-    unfolding stepsRefusal
-    same-stop h = rw (lt-leb (burden (b .lead) + v) burdenLimit h) at (same .refusal)
-
-  same-nil : {a : State} {us : List ℕ} {b : State} → Same a us b [] → (stepsRefusal rates a us ≡ 0) × (lastFrom rates a us ≡ b)
-  unfolding stepsRefusal lastFrom
-  same-nil same = (same .refusal, same .last)
-
-  -- steps us and then vs
   refusal-append : (a : State) (us vs : List ℕ) → stepsRefusal rates a (us ++ vs) ≡ orElse (stepsRefusal rates a us) (stepsRefusal rates (lastFrom rates a us) vs)
   unfolding stepsRefusal lastFrom
   refusal-append a [] vs = refl
@@ -73,101 +50,148 @@ module _ (rates : State → Rates) where
   last-append a [] vs = refl
   last-append a (u ∷ us) vs = last-append (next (rates a) a u) us vs
 
--- A day from a, at its step k: the state is b
-pub record InDay (r : Rates) (a : State) (s t : ℕ) (b : State) (k : ℕ) : Type 0 where
-  pub reach : k ≤ s
-  pub held : burden (b .lead) ≤ burdenLimit
-  pub all : account b ≡ account a + sumTo k (shareOf s t)
-  pub same : Same (λ c. r) a (dayShares s t) b (sharesFrom s t k (s - k))
+-- steps at the rates r
+module _ (r : Rates) where
+  -- a loop over the steps us from a has come to the state b, and the steps vs are ahead
+  pub record Ahead (a : State) (us : List ℕ) (b : State) (vs : List ℕ) : Type 0 where
+    pub held : burden (b .lead) ≤ burdenLimit
+    pub all : account b + sumOf vs ≡ account a + sumOf us
+    pub refusal : stepsRefusal (λ c. r) a us ≡ stepsRefusal (λ c. r) b vs
+    pub last : lastFrom (λ c. r) a us ≡ lastFrom (λ c. r) b vs
 
-module _ {r : Rates} {q : Prepared} {a : State} {s t more : ℕ} (ready : Steppable r q a s t more) where
-  pub day-start : InDay r a s t a 0
-  unfolding sumTo
-  day-start =
-      record { reach = omega arith; held = ready .held; all = omega arith; same = rw sub-zero (record { refusal = refl; last = refl }) }
+  ahead-start : (a : State) (us : List ℕ) → burden (a .lead) ≤ burdenLimit → Ahead a us a us
+  ahead-start a us h = record { held = h; all = refl; refusal = refl; last = refl }
 
-  module _ (b : State) (k : ℕ) (i : InDay r a s t b k) where
-    -- what was absorbed so far is at most t
-    absorbed-le : sumTo k (shareOf s t) ≤ t
-    absorbed-le = omega (arith, sum-mono (shareOf s t) k s (i .reach), share-law s t (ready .some) .total)
-
-    module _ (h : k < s) where
-      pub share-le : shareOf s t k ≤ t
-      share-le = share-law s t (ready .some) .each k h
-
-      ahead : Same (λ c. r) a (dayShares s t) b (shareOf s t k ∷ sharesFrom s t (k + 1) (s - (k + 1)))
-      unfolding sharesFrom
-      ahead =
-          let e : s - k ≡ suc (s - (k + 1)) = omega arith in
-          rw e at (i .same)
-
-      -- with the share u, as the code has it
-      module _ (u : ℕ) (eu : u ≡ shareOf s t k) where
-        pub day-stop : burdenLimit < burden (b .lead) + u → 22 ≡ stepsRefusal (λ c. r) a (dayShares s t)
-        day-stop over = sym (same-stop (λ c. r) b (shareOf s t k) _ ahead (omega (arith, eu)))
-
-        pub day-ready : 6_000_000_000 ≤ more → burden (b .lead) + u ≤ burdenLimit → Ready r q b u
-        day-ready enough fits =
-            let room = ready .room in
-            let all = i .all in
-            record {
-              limits = ready .limits;
-              prepared = ready .prepared;
-              room = fits;
-              urine-room = omega (arith, absorbed-le, ready .daily);
-              faeces-room = omega (arith, absorbed-le, ready .daily);
-              skin-room = omega (arith, absorbed-le, ready .daily);
-            }
-
-        pub day-next : burden (b .lead) + u ≤ burdenLimit → (c : State) → c ≡ next r b u → InDay r a s t c (k + 1)
-        day-next fits c e =
-            rw (e, eu)
-            (record {
-              reach = omega arith;
-              held = omega (arith, burden-next r b (shareOf s t k) (ready .limits), eu);
-              all = omega (arith, account-next r b (shareOf s t k) (ready .limits), i .all, sum-next k (shareOf s t));
-              same = same-step (λ c. r) b (shareOf s t k) _ ahead (omega (arith, eu));
-            })
-
-    pub day-end : s ≤ k → ReachedBy r a (dayShares s t) t (record { refusal = 0; state = b })
-    unfolding sharesFrom
-    day-end h =
-        let done : k ≡ s = omega (arith, i .reach) in
-        let none : s - k ≡ 0 = omega arith in
-        let end = same-nil (λ c. r) (rw none at (i .same)) in
-        record {
-          refused = sym (end .0);
-          reached = λ z. sym (end .1);
-          held = λ z. i .held;
-          total = λ z. omega (arith, i .all, ap (λ (n : ℕ). sumTo n (shareOf s t)) done, share-law s t (ready .some) .total);
-        }
-
-  -- a refused day says nothing of the state
-  pub day-refused : (x : Reached) → x .refusal ≡ 22 → 22 ≡ stepsRefusal (λ c. r) a (dayShares s t) → ReachedBy r a (dayShares s t) t x
-  day-refused x e h =
+  ahead-end : {a b : State} {us : List ℕ} → Ahead a us b [] → {t : ℕ} → sumOf us ≡ t → ReachedBy r a us t (record { refusal = 0; state = b })
+  unfolding stepsRefusal lastFrom
+  ahead-end now e =
       record {
-        refused = e ∙ h;
-        reached = λ z. absurd (omega (arith, z, e));
-        held = λ z. absurd (omega (arith, z, e));
-        total = λ z. absurd (omega (arith, z, e));
+        refused = sym (now .refusal);
+        reached = λ z. sym (now .last);
+        held = λ z. now .held;
+        total = λ z. omega (arith, now .all, e);
       }
 
--- A month from a, at its day d: the state is b
-pub record InMonth (r : Rates) (a : State) (s t : ℕ) (b : State) (d : ℕ) : Type 0 where
-  pub reach : d ≤ 30
-  pub held : burden (b .lead) ≤ burdenLimit
-  pub all : account b ≡ account a + d * t
-  pub same : Same (λ c. r) a (daysShares s t 30) b (daysShares s t (30 - d))
+  -- a turn takes the steps vs, which absorb t and come to x
+  module _ {a b : State} {us : List ℕ} (vs ws : List ℕ) (now : Ahead a us b (vs ++ ws)) {t : ℕ} {x : Reached} (turn : ReachedBy r b vs t x) where
+    turn-refusal : stepsRefusal (λ c. r) a us ≡ orElse (x .refusal) (stepsRefusal (λ c. r) (lastFrom (λ c. r) b vs) ws)
+    turn-refusal =
+        now .refusal
+        ∙ refusal-append (λ c. r) b vs ws
+        ∙ ap (λ (n : ℕ). orElse n (stepsRefusal (λ c. r) (lastFrom (λ c. r) b vs) ws)) (sym (turn .refused))
 
+    turn-refused : (x .refusal ≡ 0 → ⊥) → (n : ℕ) → ReachedBy r a us n x
+    turn-refused z n =
+        record {
+          refused = sym (turn-refusal ∙ orElse-first (x .refusal) _ z);
+          reached = λ e. absurd (z e);
+          held = λ e. absurd (z e);
+          total = λ e. absurd (z e);
+        }
+
+    turn-next : sumOf vs ≡ t → x .refusal ≡ 0 → Ahead a us (x .state) ws
+    turn-next e z =
+        record {
+          held = turn .held z;
+          all = omega (arith, now .all, turn .total z, e, total-append (λ (u : ℕ). u) vs ws);
+          refusal =
+              turn-refusal
+              ∙ ap (λ (n : ℕ). orElse n (stepsRefusal (λ c. r) (lastFrom (λ c. r) b vs) ws)) z
+              ∙ ap (λ (c : State). stepsRefusal (λ c. r) c ws) (sym (turn .reached z));
+          last = now .last ∙ last-append (λ c. r) b vs ws ∙ ap (λ (c : State). lastFrom (λ c. r) c ws) (sym (turn .reached z));
+        }
+
+  -- one step that absorbs u, by its test
+  module _ (b : State) (u : ℕ) where
+    step-refused : burdenLimit < burden (b .lead) + u → ReachedBy r b (u ∷ []) u (record { refusal = 22; state = b })
+    unfolding stepsRefusal
+    step-refused over =
+        record {
+          refused = rw (lt-leb (burden (b .lead) + u) burdenLimit over);
+          reached = λ z. absurd (omega arith);
+          held = λ z. absurd (omega arith);
+          total = λ z. absurd (omega arith);
+        }
+
+    step-taken : RateLimits r → burden (b .lead) + u ≤ burdenLimit → ReachedBy r b (u ∷ []) u (record { refusal = 0; state = next r b u })
+    unfolding stepsRefusal lastFrom
+    step-taken limits fits =
+        record {
+          refused = rw (le-leb (burden (b .lead) + u) burdenLimit fits);
+          reached = λ z. refl;
+          held = λ z. omega (arith, step-conserves r b u limits);
+          total = λ z. account-next r b u limits;
+        }
+
+-- a day of s steps from a that absorb t
+module _ {r : Rates} {q : Prepared} {a : State} {s t more : ℕ} (ready : Steppable r q a s t more) where
+  pub day-start : Ahead r a (dayShares s t) a (sharesFrom s t 0 (s - 0))
+  day-start = rw sub-zero (ahead-start r a (dayShares s t) (ready .held))
+
+  -- at step k the state is b
+  module _ {b : State} (k : ℕ) (now : Ahead r a (dayShares s t) b (sharesFrom s t k (s - k))) where
+    no-share-ahead : s ≤ k → Ahead r a (dayShares s t) b []
+    unfolding sharesFrom
+    no-share-ahead h = let e : s - k ≡ 0 = omega arith in rw e at now
+
+    pub day-end : s ≤ k → ReachedBy r a (dayShares s t) t (record { refusal = 0; state = b })
+    day-end h = ahead-end r (no-share-ahead h) (day-total s t (ready .some))
+
+    -- held and u as the code computes them
+    module _ (h : k < s) {held u : ℕ} (eh : held ≡ burden (b .lead)) (eu : u ≡ shareOf s t k) where
+      share-ahead : Ahead r a (dayShares s t) b (u ∷ sharesFrom s t (k + 1) (s - (k + 1)))
+      unfolding sharesFrom
+      share-ahead =
+          let e : s - k ≡ suc (s - (k + 1)) = omega arith in
+          rw (e, ← eu) at now
+
+      pub day-sum-fits : held + u ≤ burdenLimit + 6_000_000_000
+      day-sum-fits = omega (arith, now .held, eh, eu, share-law s t (ready .some) .each k h, ready .daily)
+
+      pub day-refused : burdenLimit < held + u → ReachedBy r a (dayShares s t) t (record { refusal = 22; state = b })
+      day-refused over = turn-refused r (u ∷ []) _ share-ahead (step-refused r b u (omega (arith, eh))) (λ z. omega arith) t
+
+      pub day-ready : 6_000_000_000 ≤ more → held + u ≤ burdenLimit → Ready r q b u
+      day-ready enough fits =
+          let total = day-total s t (ready .some) in
+          let all = share-ahead .all in
+          let room = ready .room in
+          record {
+            limits = ready .limits;
+            prepared = ready .prepared;
+            room = omega (arith, eh);
+            urine-room = omega (arith, ready .daily);
+            faeces-room = omega (arith, ready .daily);
+            skin-room = omega (arith, ready .daily);
+          }
+
+      pub day-next : held + u ≤ burdenLimit → (c : State) → c ≡ next r b u → Ahead r a (dayShares s t) c (sharesFrom s t (k + 1) (s - (k + 1)))
+      day-next fits c e = rw e (turn-next r (u ∷ []) _ share-ahead (step-taken r b u (ready .limits) (omega (arith, eh))) (omega arith) refl)
+
+-- a month of thirty such days
 module _ {r : Rates} {q : Prepared} {a : State} {s t : ℕ} (ready : Steppable r q a s t 180_000_000_000) where
-  pub month-start : InMonth r a s t a 0
-  month-start =
-      record { reach = omega arith; held = ready .held; all = omega arith; same = record { refusal = refl; last = refl } }
+  pub month-start : Ahead r a (daysShares s t 30) a (daysShares s t 30)
+  month-start = ahead-start r a (daysShares s t 30) (ready .held)
 
-  module _ (b : State) (d : ℕ) (i : InMonth r a s t b d) where
+  -- at day d the state is b
+  module _ {b : State} (d : ℕ) (now : Ahead r a (daysShares s t 30) b (daysShares s t (30 - d))) where
+    no-day-ahead : 30 ≤ d → daysShares s t (30 - d) ≡ []
+    unfolding daysShares
+    no-day-ahead h = let e : 30 - d ≡ 0 = omega arith in rw e
+
+    pub month-end : 30 ≤ d → ReachedBy r a (daysShares s t 30) (30 * t) (record { refusal = 0; state = b })
+    month-end h = ahead-end r (rw (no-day-ahead h) at now) (days-total s t (ready .some) 30)
+
     module _ (h : d < 30) where
-      days-absorbed-le : d * t + 6_000_000_000 ≤ 180_000_000_000
-      days-absorbed-le = omega (arith, mul-le-mul-left d (ready .daily))
+      abbrev later : List ℕ
+      later = daysShares s t (30 - (d + 1))
+
+      days-ahead : daysShares s t (30 - d) ≡ dayShares s t ++ later
+      unfolding daysShares
+      days-ahead = let e : 30 - d ≡ suc (30 - (d + 1)) = omega arith in rw e
+
+      day-ahead : Ahead r a (daysShares s t 30) b (dayShares s t ++ later)
+      day-ahead = rw days-ahead at now
 
       pub month-ready : Steppable r q b s t 6_000_000_000
       month-ready =
@@ -177,67 +201,23 @@ module _ {r : Rates} {q : Prepared} {a : State} {s t : ℕ} (ready : Steppable r
             some = ready .some;
             few = ready .few;
             daily = ready .daily;
-            held = i .held;
-            room = omega (arith, ready .room, i .all, days-absorbed-le);
+            held = now .held;
+            room =
+                omega (
+                  arith,
+                  ready .room,
+                  ready .daily,
+                  day-ahead .all,
+                  total-append (λ (u : ℕ). u) (dayShares s t) later,
+                  day-total s t (ready .some),
+                  days-total s t (ready .some) 30,
+                );
           }
 
-      days-left : daysShares s t (30 - d) ≡ dayShares s t ++ daysShares s t (30 - (d + 1))
-      unfolding daysShares
-      days-left =
-          let e : 30 - d ≡ suc (30 - (d + 1)) = omega arith in
-          rw e
-
       -- what the day that starts at b came to
-      module _ (x : Reached) (day : ReachedBy r b (dayShares s t) t x) where
-        rest : List ℕ
-        rest = daysShares s t (30 - (d + 1))
-
-        refusal-left : stepsRefusal (λ c. r) a (daysShares s t 30) ≡ orElse (x .refusal) (stepsRefusal (λ c. r) (lastFrom (λ c. r) b (dayShares s t)) rest)
-        unfolding rest
-        refusal-left =
-            i .same .refusal
-            ∙ ap (stepsRefusal (λ c. r) b) days-left
-            ∙ refusal-append (λ c. r) b (dayShares s t) rest
-            ∙ ap (λ (n : ℕ). orElse n (stepsRefusal (λ c. r) (lastFrom (λ c. r) b (dayShares s t)) rest)) (sym (day .refused))
-
+      module _ {x : Reached} (day : ReachedBy r b (dayShares s t) t x) where
         pub month-refused : (x .refusal ≡ 0 → ⊥) → ReachedBy r a (daysShares s t 30) (30 * t) x
-        month-refused z =
-            record {
-              refused = sym (refusal-left ∙ orElse-first (x .refusal) _ z);
-              reached = λ e. absurd (z e);
-              held = λ e. absurd (z e);
-              total = λ e. absurd (z e);
-            }
+        month-refused z = turn-refused r (dayShares s t) later day-ahead day z (30 * t)
 
-        pub month-next : x .refusal ≡ 0 → InMonth r a s t (x .state) (d + 1)
-        unfolding rest
-        month-next z =
-            record {
-              reach = omega arith;
-              held = day .held z;
-              all = omega (arith, day .total z, i .all);
-              same = record {
-                refusal =
-                    refusal-left
-                    ∙ ap (λ (n : ℕ). orElse n (stepsRefusal (λ c. r) (lastFrom (λ c. r) b (dayShares s t)) rest)) z
-                    ∙ ap (λ (c : State). stepsRefusal (λ c. r) c rest) (sym (day .reached z));
-                last =
-                    i .same .last
-                    ∙ ap (lastFrom (λ c. r) b) days-left
-                    ∙ last-append (λ c. r) b (dayShares s t) rest
-                    ∙ ap (λ (c : State). lastFrom (λ c. r) c rest) (sym (day .reached z));
-              };
-            }
-
-    pub month-end : 30 ≤ d → ReachedBy r a (daysShares s t 30) (30 * t) (record { refusal = 0; state = b })
-    unfolding daysShares
-    month-end h =
-        let done : d ≡ 30 = omega (arith, i .reach) in
-        let none : 30 - d ≡ 0 = omega arith in
-        let end = same-nil (λ c. r) (rw none at (i .same)) in
-        record {
-          refused = sym (end .0);
-          reached = λ z. sym (end .1);
-          held = λ z. i .held;
-          total = λ z. omega (arith, i .all, ap (λ (n : ℕ). n * t) done);
-        }
+        pub month-next : x .refusal ≡ 0 → Ahead r a (daysShares s t 30) (x .state) later
+        month-next = turn-next r (dayShares s t) later day-ahead day (day-total s t (ready .some))

@@ -9,7 +9,6 @@ use lib.ListN.{length, getD}
 use Rattle.numbers.proofs.Refusals.{firstOf-none, unless-none}
 use Rattle.site.specs.Scenario.{motherOf}
 use Rattle.book.specs.declared.Rates.{Rates}
-use Rattle.book.specs.declared.Row.{Row}
 use Rattle.book.specs.Row.{rowOf}
 use Rattle.book.specs.Limits.{RateLimits}
 use Rattle.uptake.specs.Age.{ageOf}
@@ -21,22 +20,18 @@ use Rattle.kinetics.proofs.Newborn.{birth-law}
 use Rattle.engine.specs.Files.{Files, filesRefusal, scenarioIn, tableIn}
 use Rattle.engine.specs.State.{lastMonth, stateRefusal}
 use Rattle.engine.specs.Steps.{stepsFrom, lastFrom, stepsRefusal}
-use Rattle.engine.specs.Birth.{newborn, newbornRefusal, birthRefusal, birthAnswer, birthOf}
-use Rattle.engine.specs.Month.{monthAfter, exposureIn, monthUptake, monthRates, monthShares, monthAnswer, childRefusal, monthLast, monthRefusal, monthOf}
+use Rattle.engine.specs.Birth.{newborn, newbornRefusal, birthRefusal, birthOf}
+use Rattle.engine.specs.Month.{monthAfter, exposureIn, monthUptake, monthRates, monthShares, childRefusal, monthLast, monthRefusal, monthOf}
 use Rattle.engine.specs.Conservation.{Month, Balanced, WholeMonth, dailyOf, stepsOf}
 use Rattle.engine.specs.Ready.{Decoded}
 use Rattle.engine.proofs.Shares.{days-total, days-length, sumOf}
-use Rattle.engine.proofs.Passed.{decoded, Sound, passed-sound, passed-before}
+use Rattle.engine.proofs.Passed.{decoded, Sound, passed-sound, month-after-most}
+use Rattle.engine.proofs.Calls.{answer-refusal, birth-answer-refusal}
 use Rattle.engine.proofs.Course.{chain-to, steps-chain, steps-count, steps-uptake, steps-balance, steps-within}
 
 -- the state that an accepted call answers, with the compartments and ledgers of the state that its steps left
 abbrev ended : State → State → State
 ended a last = record { month = monthAfter a; lead = last .lead; ledgers = last .ledgers }
-
--- what a call answers, by its refusal
-answer-refusal : (r : ℕ) (a last : State) (row : Row) → monthAnswer r a last row .refusal ≡ r
-answer-refusal zero a last row = refl
-answer-refusal (suc r) a last row = refl
 
 module _ (s : ℕ) (a : State) (f : Files) where
   pub month-refusal : monthOf s a f .refusal ≡ monthRefusal s a f
@@ -64,6 +59,10 @@ module _ (s : ℕ) (pos : 0 < s) (a : State) (f : Files) (accepted : monthRefusa
   abbrev uptakes : List ℕ
   uptakes = monthShares s (scenarioIn f) (tableIn f) (monthAfter a)
 
+  call-none : (k : ℕ) → getD (filesRefusal f ∷ childRefusal s a (scenarioIn f) (tableIn f) ∷ []) k 0 ≡ 0
+  unfolding monthRefusal
+  call-none = firstOf-none (filesRefusal f ∷ childRefusal s a (scenarioIn f) (tableIn f) ∷ []) accepted
+
   abbrev childRefusals : List ℕ
   childRefusals =
       stateRefusal a
@@ -71,13 +70,9 @@ module _ (s : ℕ) (pos : 0 < s) (a : State) (f : Files) (accepted : monthRefusa
       ∷ stepsRefusal (monthRates (tableIn f) (monthAfter a)) a uptakes
       ∷ []
 
-  none : (k : ℕ) → getD (filesRefusal f ∷ childRefusal s a (scenarioIn f) (tableIn f) ∷ []) k 0 ≡ 0
-  unfolding monthRefusal
-  none = firstOf-none (filesRefusal f ∷ childRefusal s a (scenarioIn f) (tableIn f) ∷ []) accepted
-
   child-none : (k : ℕ) → getD childRefusals k 0 ≡ 0
   unfolding childRefusal
-  child-none = firstOf-none childRefusals (none 1)
+  child-none = firstOf-none childRefusals (call-none 1)
 
   uptakes-total : sumOf uptakes ≡ 30 * T
   unfolding monthShares
@@ -87,31 +82,31 @@ module _ (s : ℕ) (pos : 0 < s) (a : State) (f : Files) (accepted : monthRefusa
   unfolding monthShares
   uptakes-count = days-length s T 30
 
-  of-files : Decoded (scenarioIn f) (tableIn f)
-  of-files = decoded f (none 0)
+  files-decoded : Decoded (scenarioIn f) (tableIn f)
+  files-decoded = decoded f (call-none 0)
 
-  before-last : a .month < lastMonth
-  before-last = passed-before a (child-none 0)
+  month-most : monthAfter a ≤ lastMonth
+  month-most = month-after-most a (child-none 0)
 
   -- T of an accepted call
   T-most : T ≤ 6_000_000_000
   unfolding monthUptake
   T-most =
       day-law (exposureIn (scenarioIn f) (monthAfter a)) _ _
-      (of-files .exposure (ageOf (monthAfter a)) (age-law (monthAfter a) (omega (arith, before-last)))) (child-none 1)
+      (files-decoded .exposure (ageOf (monthAfter a)) (age-law (monthAfter a) month-most)) (child-none 1)
 
   abbrev rates : State → Rates
   rates = monthRates (tableIn f) (monthAfter a)
 
-  limits : (b : State) → RateLimits (rates b)
-  limits b = of-files .row (monthAfter a) (omega (arith, before-last)) .rates
+  rates-within : (b : State) → RateLimits (rates b)
+  rates-within b = files-decoded .row (monthAfter a) month-most .rates
 
   abbrev last : State
   last = lastFrom rates a uptakes
 
   month-balance : Balanced a (ended a last) (stepsFrom rates a uptakes) (30 * T)
   month-balance =
-      let b = rw uptakes-total at (steps-balance rates limits a uptakes) in
+      let b = rw uptakes-total at (steps-balance rates rates-within a uptakes) in
       record { lead = b .lead; urine = b .urine; faeces = b .faeces; skin = b .skin; margins = b .margins }
 
   accepted-end : Accepted s (record { before = a; files = f; after = ended a last })
@@ -127,8 +122,8 @@ module _ (s : ℕ) (pos : 0 < s) (a : State) (f : Files) (accepted : monthRefusa
         };
         balance = b;
         sound = record {
-          month = omega (arith, before-last);
-          held = steps-within rates limits a uptakes (child-none 2) (before .held);
+          month = month-most;
+          held = steps-within rates rates-within a uptakes (child-none 2) (before .held);
           all = omega (arith, T-most);
         };
       }
@@ -139,21 +134,17 @@ module _ (s : ℕ) (pos : 0 < s) (a : State) (f : Files) (accepted : monthRefusa
 
 -- the state that any call answers
 pub month-sound : (s : ℕ) → 0 < s → (a : State) (f : Files) → Sound a → Sound (monthOf s a f .state)
-month-sound s pos a f sound = by (monthRefusal s a f) refl
+month-sound s pos a f sound = by-refusal (monthRefusal s a f) refl
   where
-    by : (r : ℕ) → monthRefusal s a f ≡ r → Sound (monthOf s a f .state)
-    by zero e = month-accepted s pos a f e .sound
-    by (suc r) e = rw (month-kept s a f r e) sound
+    by-refusal : (r : ℕ) → monthRefusal s a f ≡ r → Sound (monthOf s a f .state)
+    by-refusal zero e = month-accepted s pos a f e .sound
+    by-refusal (suc r) e = rw (month-kept s a f r e) sound
 
 -- an accepted birth
-birth-refusal : (r : ℕ) (child : State) → birthAnswer r child .refusal ≡ r
-birth-refusal zero child = refl
-birth-refusal (suc r) child = refl
-
 module _ (f : Files) (accepted : birthOf f .refusal ≡ 0) where
   birth-accepted : birthRefusal f ≡ 0
   unfolding birthOf
-  birth-accepted = sym (birth-refusal (birthRefusal f) _) ∙ accepted
+  birth-accepted = sym (birth-answer-refusal (birthRefusal f) _) ∙ accepted
 
   birth-none : (k : ℕ) → getD (filesRefusal f ∷ newbornRefusal (scenarioIn f) (tableIn f) ∷ []) k 0 ≡ 0
   unfolding birthRefusal

@@ -8,7 +8,8 @@ use native.Mathlib.Omega.{arith}
 use borrow.Author.Tests.{eqb-false}
 use lib.ListN.{length}
 use lib.Dec.{leb, eqb}
-use Rattle.numbers.specs.Choice.{unless, orElse}
+use Rattle.numbers.specs.Choice.{unless, orElse, firstOf}
+use Rattle.numbers.specs.Lists.{Each}
 use Rattle.block.specs.Block.{wordAt, fieldAt, numberAt, editionAt, checkAt, checkOf, zerosFrom, blockRefusal, blockAt}
 use Rattle.site.specs.declared.Exposure.{Exposure}
 use Rattle.site.specs.Site.{siteFields, siteRefusal}
@@ -19,7 +20,7 @@ use Rattle.book.specs.Book.{blockNumbers, bookBlockRefusal, blocksRefusal, book
 use Rattle.uptake.specs.Intake.{airIntake, waterIntake, soilIntake, dustIntake, intakesOf, passes, refusalOf, intakeRefusal}
 use Rattle.kinetics.specs.declared.State.{State}
 use Rattle.kinetics.specs.Step.{burden, next, burdenLimit}
-use Rattle.engine.specs.Files.{Files, filesRefusal}
+use Rattle.engine.specs.Files.{Files, filesRefusal, scenarioIn, tableIn}
 use Rattle.engine.specs.State.{lastMonth, stateRefusal}
 use Rattle.engine.specs.Steps.{stepsRefusal}
 use Rattle.engine.specs.Month.{childRefusal, monthRefusal}
@@ -29,68 +30,81 @@ use Rattle.engine.proofs.Passed.{Sound, sound-is-state}
 record Not20 (r : ℕ) : Type 0 where
   never : r ≡ 20 → ⊥
 
-none : Not20 0
-none = record { never = λ e. omega arith }
+zero-not-20 : Not20 0
+zero-not-20 = record { never = λ e. omega arith }
 
-test : (t : Bool) (n : ℕ) → eqb n 20 ≡ false → Not20 (unless t n)
-test true n h = none
-test false n h = record { never = eqb-false n 20 h }
+unless-not-20 : (t : Bool) (n : ℕ) → eqb n 20 ≡ false → Not20 (unless t n)
+unless-not-20 true n h = zero-not-20
+unless-not-20 false n h = record { never = eqb-false n 20 h }
 
-then : {r s : ℕ} → Not20 r → Not20 s → Not20 (orElse r s)
-then {r = zero} h k = k
-then {r = suc r} h k = h
+orElse-not-20 : {r s : ℕ} → Not20 r → Not20 s → Not20 (orElse r s)
+orElse-not-20 {r = zero} h k = k
+orElse-not-20 {r = suc r} h k = h
+
+firstOf-not-20 : (rs : List ℕ) → Each Not20 rs → Not20 (firstOf rs)
+firstOf-not-20 [] h = zero-not-20
+firstOf-not-20 (r ∷ rs) h = orElse-not-20 (h .0) (firstOf-not-20 rs (h .1))
 
 -- the files
 block-not-20 : (block : List ℕ) (number edition used : ℕ) → Not20 (blockRefusal block number edition used)
 unfolding blockRefusal
 block-not-20 block number edition used =
-    then (test (eqb (fieldAt block checkAt) (checkOf block)) 3 refl)
-    (then (test (eqb (wordAt block editionAt) edition) 4 refl)
-    (then (test (eqb (wordAt block numberAt) number) 5 refl) (then (test (zerosFrom block used checkAt) 6 refl) none)))
+    firstOf-not-20 (_ ∷ _ ∷ _ ∷ _ ∷ []) (
+      unless-not-20 (eqb (fieldAt block checkAt) (checkOf block)) 3 refl,
+      (
+        unless-not-20 (eqb (wordAt block editionAt) edition) 4 refl,
+        (unless-not-20 (eqb (wordAt block numberAt) number) 5 refl, (unless-not-20 (zerosFrom block used checkAt) 6 refl, tt)),
+      ),
+    )
 
 site-not-20 : (site : List ℕ) → Not20 (siteRefusal site)
 unfolding siteRefusal
 site-not-20 site =
-    then (test (eqb (length site) 512) 1 refl) (then (block-not-20 site 0 1 380) (then (test (fieldsFit (siteFields site)) 7 refl) none))
+    firstOf-not-20 (_ ∷ _ ∷ _ ∷ []) (unless-not-20 (eqb (length site) 512) 1 refl, (block-not-20 site 0 1 380, (unless-not-20 (fieldsFit (siteFields site)) 7 refl, tt)))
 
 book-block-not-20 : (block : List ℕ) (n : ℕ) → Not20 (bookBlockRefusal block n)
 unfolding bookBlockRefusal
-book-block-not-20 block n = then (block-not-20 block n 1 464) (then (test (rowsFit (blockNumbers block) 0) 8 refl) none)
+book-block-not-20 block n = firstOf-not-20 (_ ∷ _ ∷ []) (block-not-20 block n 1 464, (unless-not-20 (rowsFit (blockNumbers block) 0) 8 refl, tt))
 
 blocks-not-20 : (book : List ℕ) (n k : ℕ) → Not20 (blocksRefusal book n k)
 unfolding blocksRefusal
-blocks-not-20 book n zero = none
-blocks-not-20 book n (suc k) = then (book-block-not-20 (blockAt book n) n) (blocks-not-20 book (suc n) k)
+blocks-not-20 book n zero = zero-not-20
+blocks-not-20 book n (suc k) = orElse-not-20 (book-block-not-20 (blockAt book n) n) (blocks-not-20 book (suc n) k)
 
 book-not-20 : (book : List ℕ) → Not20 (bookRefusal book)
 unfolding bookRefusal
-book-not-20 book = then (test (eqb (length book) 8704) 1 refl) (then (blocks-not-20 book 0 17) none)
+book-not-20 book = firstOf-not-20 (_ ∷ _ ∷ []) (unless-not-20 (eqb (length book) 8704) 1 refl, (blocks-not-20 book 0 17, tt))
 
 files-not-20 : (f : Files) → Not20 (filesRefusal f)
 unfolding filesRefusal
 files-not-20 f =
-    then (test (eqb (length (f .site)) 512 && eqb (length (f .book)) 8704) 1 refl)
-    (then (site-not-20 (f .site)) (then (book-not-20 (f .book)) none))
+    firstOf-not-20 (_ ∷ _ ∷ _ ∷ []) (
+      unless-not-20 (eqb (length (f .site)) 512 && eqb (length (f .book)) 8704) 1 refl,
+      (site-not-20 (f .site), (book-not-20 (f .book), tt)),
+    )
 
 -- the child
 state-not-20 : {a : State} → Sound a → Not20 (stateRefusal a)
 unfolding stateRefusal
-state-not-20 {a} k = rw (sound-is-state k) (then (test (not (eqb (a .month) lastMonth)) 21 refl) none)
+state-not-20 {a} k = rw (sound-is-state k) (orElse-not-20 (unless-not-20 (not (eqb (a .month) lastMonth)) 21 refl) zero-not-20)
 
 intake-not-20 : (e : Exposure) → Not20 (intakeRefusal e)
 unfolding intakeRefusal refusalOf intakesOf
-intake-not-20 e = test (passes (airIntake e) && (passes (waterIntake e) && (passes (soilIntake e) && passes (dustIntake e)))) 9 refl
+intake-not-20 e = unless-not-20 (passes (airIntake e) && (passes (waterIntake e) && (passes (soilIntake e) && passes (dustIntake e)))) 9 refl
 
 steps-not-20 : (rates : State → Rates) (a : State) (us : List ℕ) → Not20 (stepsRefusal rates a us)
 unfolding stepsRefusal
-steps-not-20 rates a [] = none
-steps-not-20 rates a (u ∷ us) = then (test (leb (burden (a .lead) + u) burdenLimit) 22 refl) (steps-not-20 rates (next (rates a) a u) us)
+steps-not-20 rates a [] = zero-not-20
+steps-not-20 rates a (u ∷ us) = orElse-not-20 (unless-not-20 (leb (burden (a .lead) + u) burdenLimit) 22 refl) (steps-not-20 rates (next (rates a) a u) us)
 
 module _ (s : ℕ) {a : State} (f : Files) (sound : Sound a) where
+  child-not-20 : Not20 (childRefusal s a (scenarioIn f) (tableIn f))
+  unfolding childRefusal
+  child-not-20 = firstOf-not-20 (_ ∷ _ ∷ _ ∷ []) (state-not-20 sound, (intake-not-20 _, (steps-not-20 _ _ _, tt)))
+
   call-not-20 : Not20 (monthRefusal s a f)
-  unfolding monthRefusal childRefusal
-  call-not-20 =
-      then (files-not-20 f) (then (then (state-not-20 sound) (then (intake-not-20 _) (then (steps-not-20 _ _ _) none))) none)
+  unfolding monthRefusal
+  call-not-20 = firstOf-not-20 (_ ∷ _ ∷ []) (files-not-20 f, (child-not-20, tt))
 
   pub month-not-20 : monthRefusal s a f ≡ 20 → ⊥
   month-not-20 = call-not-20 .never

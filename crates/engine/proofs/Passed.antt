@@ -19,6 +19,7 @@ use Rattle.kinetics.specs.declared.State.{State}
 use Rattle.kinetics.specs.Step.{burden, burdenLimit}
 use Rattle.engine.specs.Files.{Files, lengthRefusal, filesRefusal, scenarioIn, tableIn}
 use Rattle.engine.specs.State.{ledgerSum, lastMonth, monthLimit, isState, stateRefusal}
+use Rattle.engine.specs.Month.{monthAfter}
 use Rattle.engine.specs.Ready.{Decoded}
 
 -- accepted files
@@ -45,7 +46,7 @@ pub sound-is-state : {a : State} → Sound a → isState a ≡ true
 unfolding isState
 sound-is-state k = and-true _ _ (le-leb _ _ (k .month)) (and-true _ _ (le-leb _ _ (k .held)) (le-leb _ _ (k .all)))
 
-pub state-is-sound : (a : State) → isState a ≡ true → Sound a
+state-is-sound : (a : State) → isState a ≡ true → Sound a
 unfolding isState
 state-is-sound a t =
     let rest = and-right (leb (a .month) lastMonth) _ t in
@@ -55,7 +56,7 @@ state-is-sound a t =
       all = leb-true _ _ (and-right (leb (burden (a .lead)) burdenLimit) _ rest);
     }
 
--- a state that is not refused is sound, and has a month before it
+-- a state that is not refused is sound, and a month can follow it
 module _ (a : State) (passed : stateRefusal a ≡ 0) where
   state-none : (k : ℕ) → getD (unless (isState a) 20 ∷ unless (not (eqb (a .month) lastMonth)) 21 ∷ []) k 0 ≡ 0
   unfolding stateRefusal
@@ -69,3 +70,6 @@ module _ (a : State) (passed : stateRefusal a ≡ 0) where
       let h = not-true _ (unless-none _ 20 (state-none 1)) in
       let n = eqb-false (a .month) lastMonth h in
       omega (arith, passed-sound .month)
+
+  pub month-after-most : monthAfter a ≤ lastMonth
+  month-after-most = omega (arith, passed-before)

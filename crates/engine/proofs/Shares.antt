@@ -1,14 +1,16 @@
 -- The shares of a day are as many as its steps and sum to its uptake, and so those of n days.
 -- Assumes nothing.
-use Prim.Native.Nat.{ℕ, zero, suc, _+_, _*_, _/_, _≤_, _<_}
+use Prim.Native.Nat.{ℕ, zero, suc, _+_, _*_, _<_}
 use mathlib.Core.Path.{_≡_, refl, ap, sym}
 use mathlib.Core.List.{List}
-use native.Mathlib.Nat.{add-zero, mul-zero, zero-mul, suc-mul, zero-div, mul-div-cancel}
+use native.Mathlib.Nat.{add-zero, zero-mul, suc-mul}
 use native.Mathlib.Omega.{arith}
 use lib.ListN.{length, length-append}
 use Rattle.numbers.specs.Lists.{totalOf}
+use Rattle.numbers.specs.Sums.{sumTo}
+use Rattle.numbers.proofs.Sums.{sum-next}
 use Rattle.kinetics.specs.Share.{shareOf}
-use Rattle.kinetics.proofs.DayShares.{absorbed-mono, share-law}
+use Rattle.kinetics.proofs.DayShares.{share-law}
 use Rattle.engine.specs.Steps.{sharesFrom, dayShares, daysShares}
 use Rattle.numbers.proofs.Lists.{total-append}
 
@@ -16,7 +18,7 @@ use Rattle.numbers.proofs.Lists.{total-append}
 abbrev pub sumOf : List ℕ → ℕ
 sumOf us = totalOf (λ (u : ℕ). u) us
 
-pub shares-length : (s T k n : ℕ) → length (sharesFrom s T k n) ≡ n
+shares-length : (s T k n : ℕ) → length (sharesFrom s T k n) ≡ n
 unfolding sharesFrom
 shares-length s T k zero = refl
 shares-length s T k (suc n) = ap suc (shares-length s T (k + 1) n)
@@ -27,24 +29,22 @@ days-length s T zero = sym (zero-mul s)
 days-length s T (suc n) =
     rw suc-mul (omega (arith, length-append (dayShares s T) (daysShares s T n), shares-length s T 0 s, days-length s T n))
 
+-- the shares before step k, and those of n steps from it on
+shares-sum : (s T k n : ℕ) → sumTo k (shareOf s T) + sumOf (sharesFrom s T k n) ≡ sumTo (k + n) (shareOf s T)
+unfolding sharesFrom
+shares-sum s T k zero = rw (add-zero k) (omega arith)
+shares-sum s T k (suc n) =
+    let e : k + 1 + n ≡ k + suc n = omega arith in
+    let h = rw e at (shares-sum s T (k + 1) n) in
+    omega (arith, sum-next k (shareOf s T))
+
 module _ (s T : ℕ) (pos : 0 < s) where
-  pub share-le : (k : ℕ) → k < s → shareOf s T k ≤ T
-  share-le = share-law s T pos .each
-
-  -- what the steps before step k absorb, and then n steps
-  pub shares-total : (k n : ℕ) → sumOf (sharesFrom s T k n) + T * k / s ≡ T * (k + n) / s
-  unfolding sharesFrom shareOf
-  shares-total k zero = rw add-zero (omega arith)
-  shares-total k (suc n) =
-      let e : k + 1 + n ≡ k + suc n = omega arith in
-      let h = rw e at (shares-total (k + 1) n) in
-      omega (arith, absorbed-mono s T pos k)
-
   pub day-total : sumOf (dayShares s T) ≡ T
+  unfolding sumTo
   day-total =
       let e : 0 + s ≡ s = omega arith in
-      let h = rw (mul-zero, zero-div, e) at (shares-total 0 s) in
-      omega (arith, mul-div-cancel T pos)
+      let h = rw e at (shares-sum s T 0 s) in
+      omega (arith, share-law s T pos .total)
 
   pub days-total : (n : ℕ) → sumOf (daysShares s T n) ≡ n * T
   unfolding daysShares

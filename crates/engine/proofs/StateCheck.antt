@@ -5,7 +5,7 @@ use mathlib.Core.Bool.{true}
 use mathlib.Core.List.{List}
 use Prim.Native.Nat.{ℕ, _+_, _*_, _≤_, _<_, min}
 use native.Mathlib.Omega.{arith}
-use lib.ListN.{getD}
+use lib.ListN.{length, getD}
 use borrow.Author.Tests.{le-leb, lt-leb, eq-eqb, ne-eqb}
 use Rattle.numbers.specs.Sums.{sumTo}
 use Rattle.numbers.proofs.Sums.{sum-next}
@@ -26,14 +26,18 @@ pub cap-next : (f : ℕ → ℕ) (i : ℕ) {sum next total : ℕ} → sum ≡ mi
     → total ≡ min (sumTo (i + 1) f) cap
 cap-next f i {sum} {next} {total} es en et = min-add (sumTo i f) (f i) sum next total es en et ∙ ap (λ (n : ℕ). min n cap) (sym (sum-next i f))
 
--- the seven compartments and the three ledgers, summed in order
-pub burden-sum : (lead : List ℕ) → sumTo 7 (λ i. getD lead i 0) ≡ burden lead
-unfolding sumTo
-burden-sum lead = omega arith
+-- x is the capped sum of a list of n numbers, which is t
+capped-list : (l : List ℕ) {n t x : ℕ} → length l ≡ n → sumTo n (λ i. getD l i 0) ≡ t → x ≡ min (sumTo (length l) (λ i. getD l i 0)) cap → x ≡ min t cap
+capped-list l en et ex = ex ∙ ap (λ (n : ℕ). min (sumTo n (λ i. getD l i 0)) cap) en ∙ ap (λ (n : ℕ). min n cap) et
 
-pub ledger-sum : (a : State) → sumTo 3 (λ i. getD (a .ledgers) i 0) ≡ ledgerSum a
+-- the seven compartments, and the three ledgers
+pub capped-burden : (lead : List ℕ) {x : ℕ} → length lead ≡ 7 → x ≡ min (sumTo (length lead) (λ i. getD lead i 0)) cap → x ≡ min (burden lead) cap
 unfolding sumTo
-ledger-sum a = omega arith
+capped-burden lead seven = capped-list lead seven (omega arith)
+
+pub capped-ledgers : (a : State) {x : ℕ} → length (a .ledgers) ≡ 3 → x ≡ min (sumTo (length (a .ledgers)) (λ i. getD (a .ledgers) i 0)) cap → x ≡ min (ledgerSum a) cap
+unfolding sumTo
+capped-ledgers a three = capped-list (a .ledgers) three (omega arith)
 
 -- the state's refusals, in their order, by what the code computes
 module _ (a : State) where

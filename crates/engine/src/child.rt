@@ -44,9 +44,10 @@ pub fn born(scenario: Scenario, table: &[u32]) -> BirthAnswer
     let child = kinetics::birth::birth_state(row, mother);
     let held = check::capped_sum(&child.lead);
     if held > BURDEN_MOST {
+        let zero = zero_state();
         return BirthAnswer {
             refusal: BURDEN_TOO_LARGE,
-            state: zero_state(),
+            state: zero,
         };
     }
     BirthAnswer {
@@ -95,11 +96,11 @@ fn stepped_month(state: State, row: Row, t: u64) -> MonthAnswer
     let rates = row.rates;
     let prepared = kinetics::prepare::prepare(rates);
     let reached = steps::days(rates, prepared, state, STEPS_A_DAY, t);
-    let refusal = reached.refusal;
-    if refusal != 0 {
-        return refused_month(refusal, state);
-    }
+    let over = reached.refusal;
     let last = reached.state;
+    if over != 0 {
+        return refused_month(over, state);
+    }
     accepted_month(state, last, row)
 }
 

@@ -32,9 +32,10 @@ pub fn months(state: State, scenario: Scenario, table: &[u32], blood: &mut [u32]
         here = answer.state;
         done = done + 1;
     }
+    let all = done as u32;
     RunAnswer {
         refusal: 0,
-        months: 84,
+        months: all,
         state: here,
     }
 }

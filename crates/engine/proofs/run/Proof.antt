@@ -1,18 +1,11 @@
 -- `engine::run` meets its contract: each way out before the first month, and the months.
 -- Assumes nothing.
-use Prim.Native.Nat.{ℕ}
-use mathlib.Core.Path.{_≡_, sym, ap₂, _∙_}
-use mathlib.Core.List.{List}
+use mathlib.Core.Path.{sym}
 use borrow.Author.Needs.{needs}
 use denote.Ref.{now}
-use Rattle.site.specs.declared.Scenario.{Scenario}
 use Rattle.engine.specs.Files.{Files, filesOf}
-use Rattle.engine.specs.Birth.{newborn, newbornRefusal, birthAnswer, birthOf}
-use Rattle.engine.specs.Run.{runAnswer, runList}
-use Rattle.engine.specs.Ready.{childRun}
 use Rattle.engine.proofs.Accepted.{read-decoded, read-long}
-use Rattle.engine.proofs.Calls.{birth-passed}
-use Rattle.engine.proofs.Runs.{run-lengths, run-list, run-files, run-birth, run-months}
+use Rattle.engine.proofs.Runs.{run-lengths-refused, run-list-refused, run-files-refused, run-birth-refused, run-months}
 use Rattle.engine.proofs.run.Statement.{statement}
 use Rattle.engine.proofs.run.Tie as tie
 
@@ -20,22 +13,12 @@ use Rattle.engine.proofs.run.Tie as tie
 abbrev files : tie.Start → Files
 files start = filesOf (now (start .args .site)) (now (start .args .book))
 
--- where the code is once the files are read, and where it is once the child is born
+-- the start, from where the files are read; and where they are read, from where the child is born
 abbrev start-of : tie.After-read-files → tie.Start
 start-of c = c .before .before .before .before .before .before .before .before
 
 abbrev read-of : tie.After-born → tie.After-read-files
 read-of c = c .before .before .before .before
-
--- what the child born is
-born-is : (c : tie.After-born) → c .born .result ≡ birthOf (files (start-of (read-of c)))
-born-is c =
-    let r = read-of c in
-    let done = r .read-files .ensures in
-    let passed = c .before .before .before .if3 .left in
-    c .born .ensures
-    ∙ ap₂ (λ (s : Scenario) (l : List ℕ). birthAnswer (newbornRefusal s l) (newborn s l)) (done .scenario passed) (done .table-is passed)
-    ∙ birth-passed (files (start-of r)) (sym (done .refusal) ∙ passed)
 
 length-refusal-requires : tie.Need-length-refusal-requires
 length-refusal-requires c κs = search needs
@@ -47,8 +30,7 @@ returns : tie.Need-returns
 returns c =
     let l = c .before .before in
     let start = l .before .before .before .before in
-    let d = run-lengths 6 (files start) (now (start .args .blood)) (l .length-refusal .ensures) (c .before .if1 .taken) _ (c .refused-run .ensures) in
-    (d .answer, d .list)
+    run-lengths-refused 6 (files start) (now (start .args .blood)) (l .length-refusal .ensures) (c .before .if1 .taken) _ (c .refused-run .ensures)
 
 refused-run-requires-2 : tie.Need-refused-run-requires-2
 refused-run-requires-2 c κs = search needs
@@ -57,9 +39,8 @@ returns-2 : tie.Need-returns-2
 returns-2 c =
     let l = c .before .before .before in
     let start = l .before .before .before .before in
-    let d =
-    run-list 6 (files start) (now (start .args .blood)) (l .length-refusal .ensures) (c .before .before .if1 .left) (c .before .if2 .taken) _ (c .refused-run2 .ensures) in
-    (d .answer, d .list)
+    run-list-refused 6 (files start) (now (start .args .blood)) (l .length-refusal .ensures) (c .before .before .if1 .left) (c .before .if2 .taken) _
+    (c .refused-run2 .ensures)
 
 read-files-requires : tie.Need-read-files-requires
 read-files-requires c κs = search needs
@@ -70,20 +51,17 @@ refused-run-requires-3 c κs = search needs
 returns-3 : tie.Need-returns-3
 returns-3 c =
     let r = c .before .before in
-    let start = start-of r in
-    let d =
-    run-files 6 (files start) (now (start .args .blood)) (r .before .before .before .before .length-refusal .ensures) (r .before .before .before .if1 .left)
-    (r .before .before .if2 .left) _ (r .read-files .ensures .refusal) (c .before .if3 .taken) _ (c .refused-run3 .ensures) in
-    (d .answer, d .list)
+    run-files-refused 6 (files (start-of r)) (now (start-of r .args .blood)) (r .before .before .before .before .length-refusal .ensures)
+    (r .before .before .before .if1 .left) (r .before .before .if2 .left) (r .read-files .ensures) (c .before .if3 .taken) _ (c .refused-run3 .ensures)
 
 slice-aggregate-born : tie.Need-slice-aggregate-born
 slice-aggregate-born c = sym (read-long (c .before .before .before .read-files .ensures) (c .before .before .if3 .left))
 
 born-requires : tie.Need-born-requires
 born-requires c κs =
-    let done = c .before .before .before .read-files .ensures in
+    let read = c .before .before .before .read-files .ensures in
     let passed = c .before .before .if3 .left in
-    (read-long done passed, read-decoded done passed)
+    (read-long read passed, read-decoded read passed)
 
 refused-run-requires-4 : tie.Need-refused-run-requires-4
 refused-run-requires-4 c κs = search needs
@@ -92,11 +70,9 @@ returns-4 : tie.Need-returns-4
 returns-4 c =
     let b = c .before .before in
     let r = read-of b in
-    let start = start-of r in
-    let d =
-    run-birth 6 (files start) (now (start .args .blood)) (r .before .before .before .before .length-refusal .ensures) (r .before .before .before .if1 .left)
-    (r .before .before .if2 .left) (sym (r .read-files .ensures .refusal) ∙ b .before .before .before .if3 .left) _ (born-is b) (c .before .if4 .taken) _ (c .refused-run4 .ensures) in
-    (d .answer, d .list)
+    run-birth-refused 6 (files (start-of r)) (now (start-of r .args .blood)) (r .before .before .before .before .length-refusal .ensures)
+    (r .before .before .before .if1 .left) (r .before .before .if2 .left) (r .read-files .ensures) (b .before .before .before .if3 .left) _ (b .born .ensures)
+    (c .before .if4 .taken) _ (c .refused-run4 .ensures)
 
 slice-aggregate-months : tie.Need-slice-aggregate-months
 slice-aggregate-months c =
@@ -118,15 +94,9 @@ returns-5 c =
     let m = c .before .before in
     let b = m .before .before .before .before .before in
     let r = read-of b in
-    let start = start-of r in
-    let done = r .read-files .ensures in
-    let passed = b .before .before .before .if3 .left in
-    let d =
-    run-months 6 (files start) (now (start .args .blood)) (r .before .before .before .before .length-refusal .ensures) (r .before .before .before .if1 .left)
-    (r .before .before .if2 .left) (sym (done .refusal) ∙ passed) _ (born-is b) (m .before .before .before .before .if4 .left) _ _
-    (m .months .ensures .0 ∙ ap₂ (λ (s : Scenario) (l : List ℕ). runAnswer (childRun 6 (b .born .result .state) s l)) (done .scenario passed) (done .table-is passed))
-    (m .months .ensures .1 ∙ ap₂ (λ (s : Scenario) (l : List ℕ). runList (childRun 6 (b .born .result .state) s l) (now (start .args .blood))) (done .scenario passed) (done .table-is passed)) in
-    (d .answer, d .list)
+    run-months 6 (files (start-of r)) (now (start-of r .args .blood)) (r .before .before .before .before .length-refusal .ensures)
+    (r .before .before .before .if1 .left) (r .before .before .if2 .left) (r .read-files .ensures) (b .before .before .before .if3 .left) _ (b .born .ensures)
+    (m .before .before .before .before .if4 .left) _ _ (m .months .ensures)
 
 pub run-spec : {M : Type 1} → statement M
 run-spec =

@@ -1,13 +1,12 @@
 -- `engine::check::state_refusal` meets its contract: each way out is one case of `stateRefusal`.
 -- Assumes nothing.
-use Prim.Native.Nat.{ℕ, min}
-use mathlib.Core.Path.{_≡_, ap, _∙_}
-use lib.ListN.{length, getD}
+use Prim.Native.Nat.{min}
+use mathlib.Core.Path.{_≡_}
+use lib.ListN.{length}
 use borrow.Author.Needs.{needs}
-use Rattle.numbers.specs.Sums.{sumTo}
 use Rattle.kinetics.specs.Step.{burden}
 use Rattle.engine.specs.State.{ledgerSum}
-use Rattle.engine.proofs.StateCheck.{cap, burden-sum, ledger-sum, refused-month, refused-burden, refused-ledgers, refused-last, not-refused}
+use Rattle.engine.proofs.StateCheck.{cap, capped-burden, capped-ledgers, refused-month, refused-burden, refused-ledgers, refused-last, not-refused}
 use Rattle.engine.proofs.check.state_refusal.Statement.{statement}
 use Rattle.engine.proofs.check.state_refusal.Tie as tie
 
@@ -16,13 +15,13 @@ held-is : (c : tie.After-capped-sum) → c .capped-sum .result ≡ min (burden (
 held-is c =
     let lead = c .before .before .before .before .before .args .t1 .lead in
     let seven : length lead ≡ 7 = search needs in
-    c .capped-sum .ensures ∙ ap (λ (n : ℕ). min (sumTo n (λ i. getD lead i 0)) cap) seven ∙ ap (λ (n : ℕ). min n cap) (burden-sum lead)
+    capped-burden lead seven (c .capped-sum .ensures)
 
 left-is : (c : tie.After-capped-sum2) → c .capped-sum2 .result ≡ min (ledgerSum (c .before .before .before .before .before .before .before .before .before .before .args .t1)) cap
 left-is c =
     let state = c .before .before .before .before .before .before .before .before .before .before .args .t1 in
     let three : length (state .ledgers) ≡ 3 = search needs in
-    c .capped-sum2 .ensures ∙ ap (λ (n : ℕ). min (sumTo n (λ i. getD (state .ledgers) i 0)) cap) three ∙ ap (λ (n : ℕ). min n cap) (ledger-sum state)
+    capped-ledgers state three (c .capped-sum2 .ensures)
 
 returns : tie.Need-returns
 returns c = refused-month (c .before .args .t1) (c .if1 .taken)

@@ -1,16 +1,15 @@
 -- `engine::child::born` meets its contract: refused by its burden, or the newborn child.
 -- Assumes nothing.
-use Prim.Native.Nat.{ℕ, min}
-use mathlib.Core.Path.{_≡_, ap, ap₂, _∙_}
+use Prim.Native.Nat.{min}
+use mathlib.Core.Path.{_≡_, ap₂, _∙_}
 use native.Mathlib.Omega.{arith}
-use lib.ListN.{length, getD}
+use lib.ListN.{length}
 use borrow.Author.Needs.{needs}
 use denote.Ref.{now}
-use Rattle.numbers.specs.Sums.{sumTo}
 use Rattle.kinetics.specs.Birth.{birthState}
 use Rattle.kinetics.specs.Step.{burden}
 use Rattle.engine.specs.Birth.{newborn}
-use Rattle.engine.proofs.StateCheck.{cap, burden-sum}
+use Rattle.engine.proofs.StateCheck.{cap, capped-burden}
 use Rattle.engine.proofs.Answers.{born-refused, born-accepted}
 use Rattle.engine.proofs.child.born.Statement.{statement}
 use Rattle.engine.proofs.child.born.Tie as tie
@@ -24,7 +23,7 @@ held-is : (c : tie.After-capped-sum) → c .capped-sum .result ≡ min (burden (
 held-is c =
     let lead = c .before .before .before .before .birth-state .result .lead in
     let seven : length lead ≡ 7 = search needs in
-    c .capped-sum .ensures ∙ ap (λ (n : ℕ). min (sumTo n (λ i. getD lead i 0)) cap) seven ∙ ap (λ (n : ℕ). min n cap) (burden-sum lead)
+    capped-burden lead seven (c .capped-sum .ensures)
 
 row-at-requires : tie.Need-row-at-requires
 row-at-requires c κs = search needs

@@ -9,8 +9,8 @@ use Rattle.site.specs.Limits.{ExposureLimits}
 use Rattle.uptake.specs.Intake.{intakesOf, refusalOf, intakeRefusal}
 use Rattle.uptake.proofs.Ready.{accept}
 use Rattle.engine.specs.Month.{monthAfter, exposureIn}
-use Rattle.engine.proofs.Passed.{passed-before}
-use Rattle.engine.proofs.Calls.{month-intake-refused, month-stepped, taken-uptake, weights-within}
+use Rattle.engine.proofs.Passed.{month-after-most}
+use Rattle.engine.proofs.Calls.{month-intake-refused, month-stepped, weights-within}
 use Rattle.engine.proofs.child.month_after.Statement.{statement}
 use Rattle.engine.proofs.child.month_after.Tie as tie
 
@@ -31,10 +31,10 @@ refusal-is c =
     c .intake-refusal .ensures ∙ ap refusalOf (c .before .intakes-of .ensures ∙ ap intakesOf (exposure-is (c .before .before)))
 
 add-month : tie.Need-add-month
-add-month c = omega (arith, passed-before (c .before .before .args .state) (c .before .before .pre .2))
+add-month c = omega (arith, month-after-most (c .before .before .args .state) (c .before .before .pre .2))
 
 age-of-requires : tie.Need-age-of-requires
-age-of-requires c κs = omega (arith, passed-before (c .before .before .args .state) (c .before .before .pre .2))
+age-of-requires c κs = omega (arith, month-after-most (c .before .before .args .state) (c .before .before .pre .2))
 
 exposure-at-requires : tie.Need-exposure-at-requires
 exposure-at-requires c κs = search needs
@@ -58,7 +58,7 @@ returns c =
 row-at-requires : tie.Need-row-at-requires
 row-at-requires c κs =
     let start = c .before .before .before .before .before .before .before in
-    omega (arith, start .pre .0, passed-before (start .args .state) (start .pre .2))
+    omega (arith, start .pre .0, month-after-most (start .args .state) (start .pre .2))
 
 row-at-requires-2 : tie.Need-row-at-requires-2
 row-at-requires-2 c κs = search needs
@@ -68,7 +68,7 @@ day-uptake-requires c κs =
     let r = c .before .before .before in
     let start = r .before .before .before .before .before .before in (
       accept (exposure-within (r .before .before)) (r .before .intakes-of .ensures) (sym (r .intake-refusal .ensures) ∙ c .before .before .if1 .left),
-      weights-within (start .pre .1) (omega (arith, passed-before (start .args .state) (start .pre .2))) (c .before .row-at .ensures) (c .row-at2 .ensures),
+      weights-within (start .pre .1) (month-after-most (start .args .state) (start .pre .2)) (c .before .row-at .ensures) (c .row-at2 .ensures),
     )
 
 stepped-month-requires : tie.Need-stepped-month-requires
@@ -76,7 +76,7 @@ stepped-month-requires c κs =
     let rows = c .before .before in
     let start = rows .before .before .before .before .before .before .before .before in (
       start .pre .2,
-      rw (rows .row-at .ensures) (start .pre .1 .row (monthAfter (start .args .state)) (omega (arith, passed-before (start .args .state) (start .pre .2)))),
+      rw (rows .row-at .ensures) (start .pre .1 .row (monthAfter (start .args .state)) (month-after-most (start .args .state) (start .pre .2))),
       c .day-uptake .ensures .small,
     )
 
@@ -86,8 +86,8 @@ returns-2 c =
     let r = rows .before .before in
     let a = r .before .before .before .before .before .before .args in
     c .stepped-month .ensures
-    ∙ month-stepped 6 (a .state) (a .scenario) (now (a .table)) (sym (refusal-is r) ∙ rows .before .if1 .left) _ (rows .row-at .ensures) _
-    (c .before .day-uptake .ensures .value ∙ taken-uptake (a .scenario) (now (a .table)) (monthAfter (a .state)) (exposure-is (r .before .before)) (rows .row-at .ensures) (c .before .before .row-at2 .ensures))
+    ∙ month-stepped 6 (a .state) (a .scenario) (now (a .table)) (sym (refusal-is r) ∙ rows .before .if1 .left) (exposure-is (r .before .before))
+    (rows .row-at .ensures) (c .before .before .row-at2 .ensures) (c .before .day-uptake .ensures .value)
 
 pub month-after-spec : {M : Type 1} → statement M
 month-after-spec =

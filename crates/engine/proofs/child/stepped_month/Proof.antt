@@ -20,7 +20,7 @@ refused-month-requires c κs = search needs
 
 returns : tie.Need-returns
 returns c =
-    let d = c .before .before in
+    let d = c .before .before .before in
     let a = d .before .before .before .args in
     c .refused-month .ensures ∙ stepped-refused (a .state) (a .row) (a .t) (d .days .result) (d .days .ensures) (c .before .if1 .taken)
 
@@ -28,13 +28,13 @@ accepted-month-requires : tie.Need-accepted-month-requires
 accepted-month-requires c κs =
     let d = c .before .before in
     let start = d .before .before .before in
-    (passed-before (start .args .state) (start .pre .0), d .days .ensures .held (c .before .if1 .left), start .pre .1)
+    (passed-before (start .args .state) (start .pre .0), d .days .ensures .held (c .if1 .left), start .pre .1)
 
 returns-2 : tie.Need-returns-2
 returns-2 c =
     let d = c .before .before .before in
     let a = d .before .before .before .args in
-    c .accepted-month .ensures ∙ stepped-accepted (a .state) (a .row) (a .t) (d .days .result) (d .days .ensures) (c .before .before .if1 .left)
+    c .accepted-month .ensures ∙ stepped-accepted (a .state) (a .row) (a .t) (d .days .result) (d .days .ensures) (c .before .if1 .left)
 
 pub stepped-month-spec : {M : Type 1} → statement M
 stepped-month-spec =

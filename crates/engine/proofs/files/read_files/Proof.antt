@@ -6,7 +6,7 @@ use denote.Ref.{now}
 use Rattle.site.specs.declared.SiteRead.{SiteRead}
 use Rattle.site.proofs.Accepted.{read-refusal}
 use Rattle.engine.specs.Files.{filesOf}
-use Rattle.engine.proofs.Answers.{files-length, files-site, files-book}
+use Rattle.engine.proofs.Answers.{files-refused-by-length, files-refused-by-site, files-refused-or-read}
 use Rattle.engine.proofs.files.read_files.Statement.{statement}
 use Rattle.engine.proofs.files.read_files.Tie as tie
 
@@ -20,14 +20,14 @@ returns : tie.Need-returns
 returns c =
     let lengths = c .before in
     let a = lengths .before .before .before .before .before .args in
-    files-length (filesOf (now (a .site)) (now (a .book))) _ _ (lengths .length-refusal .ensures) (c .if1 .taken)
+    files-refused-by-length (filesOf (now (a .site)) (now (a .book))) _ _ (lengths .length-refusal .ensures) (c .if1 .taken)
 
 returns-2 : tie.Need-returns-2
 returns-2 c =
     let lengths = c .before .before in
     let read = lengths .before .before in
     let a = read .before .before .before .args in
-    files-site (filesOf (now (a .site)) (now (a .book))) _ _ (lengths .length-refusal .ensures) (c .before .if1 .left)
+    files-refused-by-site (filesOf (now (a .site)) (now (a .book))) _ _ (lengths .length-refusal .ensures) (c .before .if1 .left)
     (ap (λ (x : SiteRead). x .refusal) (read .read-site .ensures) ∙ read-refusal (now (a .site))) (c .if2 .taken)
 
 read-book-requires : tie.Need-read-book-requires
@@ -38,7 +38,7 @@ returns-3 c =
     let lengths = c .before .before .before .before in
     let read = lengths .before .before in
     let a = read .before .before .before .args in
-    files-book (filesOf (now (a .site)) (now (a .book))) _ _ (lengths .length-refusal .ensures) (c .before .before .before .if1 .left)
+    files-refused-or-read (filesOf (now (a .site)) (now (a .book))) _ _ (lengths .length-refusal .ensures) (c .before .before .before .if1 .left)
     (ap (λ (x : SiteRead). x .refusal) (read .read-site .ensures) ∙ read-refusal (now (a .site))) (c .before .before .if2 .left)
     (ap (λ (x : SiteRead). x .scenario) (read .read-site .ensures)) (c .read-book .ensures .0) (c .read-book .ensures .1)
 

@@ -1,33 +1,23 @@
 -- `engine::months::months` meets its contract: the whole run is the figures written so far and the months from the state here.
 -- Assumes nothing.
-use Prim.Native.Nat.{ℕ, _-_}
-use mathlib.Core.Path.{sym, ap, _∙_}
-use mathlib.Core.List.{List}
+use Prim.Native.Nat.{_-_}
+use mathlib.Core.Path.{sym, _∙_}
 use native.Mathlib.Omega.{arith}
 use borrow.Author.Needs.{needs}
 use denote.Ref.{now}
-use Rattle.site.specs.declared.Scenario.{Scenario}
-use Rattle.kinetics.specs.declared.State.{State}
-use Rattle.engine.specs.declared.MonthAnswer.{MonthAnswer}
 use Rattle.engine.specs.Ready.{childMonth, childRun}
 use Rattle.engine.proofs.Runs.{InRun, run-start, run-stop, run-next, run-end, child-kept}
 use Rattle.engine.proofs.months.months.Statement.{statement}
 use Rattle.engine.proofs.months.months.Tie as tie
 
--- a month from the state b
-abbrev call : Scenario → List ℕ → State → MonthAnswer
-call scenario table b = childMonth 6 b scenario table
-
 abbrev Inv-loop : tie.InvT-loop
-Inv-loop scenario table blood₀ here₀ done₀ blood here done = InRun (call scenario table) (child-kept 6 scenario table) here₀ blood₀ blood here done
+Inv-loop scenario table blood₀ here₀ done₀ blood here done = InRun (λ b. childMonth 6 b scenario table) here₀ blood₀ blood here done
 
 abbrev μ-loop : tie.MeasureT-loop
 μ-loop scenario table blood₀ here₀ done₀ blood here done = 84 - done
 
 loop-holds : tie.Need-loop-holds Inv-loop μ-loop
-loop-holds c =
-    let start = c .before .before in
-    run-start (call (start .args .scenario) (now (start .args .table))) (child-kept 6 (start .args .scenario) (now (start .args .table))) _ _ (start .pre .1 .1)
+loop-holds c = run-start _ _ _ (c .before .before .pre .1 .1)
 
 child-month-requires : tie.Need-child-month-requires Inv-loop μ-loop
 child-month-requires c κs =
@@ -48,10 +38,7 @@ returns c =
     let m = c .before in
     let l = m .before .before in
     let a = l .before .before .before .args in
-    let d =
-    run-stop (call (a .scenario) (now (a .table))) (child-kept 6 (a .scenario) (now (a .table))) (a .state) _ _ (l .loop .here) (l .loop .done) (l .loop .inv)
-    (m .before .loop-test .taken) _ (ap (λ (x : MonthAnswer). x .refusal) (sym (m .child-month .ensures))) (c .if1 .taken) in
-    (d .answer, d .list)
+    run-stop (l .loop .inv) (m .before .loop-test .taken) (m .child-month .ensures) (child-kept 6 (a .scenario) (now (a .table))) (c .if1 .taken)
 
 mul-blood : tie.Need-mul-blood Inv-loop μ-loop
 mul-blood c = search needs
@@ -68,24 +55,17 @@ loop-less c = search needs
 loop-again : tie.Need-loop-again Inv-loop μ-loop
 loop-again c =
     let m = c .before .before in
-    let l = m .before .before in
-    let a = l .before .before .before .args in
-    run-next (call (a .scenario) (now (a .table))) (child-kept 6 (a .scenario) (now (a .table))) (a .state) _ _ (l .loop .here) (l .loop .done) (l .loop .inv)
-    (m .before .loop-test .taken) _ (ap (λ (x : MonthAnswer). x .blood) (m .child-month .ensures)) _ (ap (λ (x : MonthAnswer). x .state) (m .child-month .ensures))
-    (ap (λ (x : MonthAnswer). x .refusal) (sym (m .child-month .ensures)) ∙ c .before .if1 .left)
+    run-next (m .before .before .loop .inv) (m .before .loop-test .taken) (m .child-month .ensures) (c .before .if1 .left)
+
+cast-all : tie.Need-cast-all Inv-loop μ-loop
+cast-all c = omega (arith, c .before .loop .inv .reach)
 
 same-length-2 : tie.Need-same-length-2 Inv-loop μ-loop
 same-length-2 c = c .before .loop .inv .long ∙ sym (c .before .before .before .before .pre .1 .1)
 
 returns-2 : tie.Need-returns-2 Inv-loop μ-loop
 unfolding childRun
-returns-2 c =
-    let l = c .before in
-    let a = l .before .before .before .args in
-    let d =
-    run-end (call (a .scenario) (now (a .table))) (child-kept 6 (a .scenario) (now (a .table))) (a .state) _ _ (l .loop .here) (l .loop .done) (l .loop .inv)
-    (c .loop-test .left) in
-    (d .answer, d .list)
+returns-2 c = run-end (c .before .loop .inv) (c .loop-test .left)
 
 pub months-spec : {M : Type 1} → statement M
 months-spec =
@@ -103,5 +83,6 @@ months-spec =
     add-done
     loop-less
     loop-again
+    cast-all
     same-length-2
     returns-2)

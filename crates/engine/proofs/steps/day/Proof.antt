@@ -1,15 +1,15 @@
 -- `engine::steps::day` meets its contract: at step k the shares from k on are left.
 -- Assumes nothing.
 use Prim.Native.Nat.{_-_}
-use mathlib.Core.Path.{refl}
 use native.Mathlib.Omega.{arith}
 use borrow.Author.Needs.{needs}
-use Rattle.engine.proofs.Loops.{InDay, day-start, share-le, day-stop, day-ready, day-next, day-end, day-refused}
+use Rattle.engine.specs.Steps.{sharesFrom, dayShares}
+use Rattle.engine.proofs.Loops.{Ahead, day-start, day-sum-fits, day-refused, day-ready, day-next, day-end}
 use Rattle.engine.proofs.steps.day.Statement.{statement}
 use Rattle.engine.proofs.steps.day.Tie as tie
 
 abbrev Inv-loop : tie.InvT-loop
-Inv-loop rates prepared s t here₀ k₀ here k = InDay rates here₀ s t here k
+Inv-loop rates prepared s t here₀ k₀ here k = Ahead rates here₀ (dayShares s t) here (sharesFrom s t k (s - k))
 
 abbrev μ-loop : tie.MeasureT-loop
 μ-loop rates prepared s t here₀ k₀ here k = s - k
@@ -27,24 +27,20 @@ burden-of-requires c κs = c .before .before .loop .inv .held
 
 add-if1 : tie.Need-add-if1 Inv-loop μ-loop
 add-if1 c =
-    let ready = c .before .before .before .before .pre in
-    let l = c .before .before .before .loop in
-    omega (arith, c .burden-of .ensures, l .inv .held, c .before .share .ensures, share-le ready (l .here) (l .k) (l .inv) (c .before .before .loop-test .taken), ready .daily)
+    let l = c .before .before .before in
+    omega (arith, day-sum-fits (l .before .pre) (l .loop .k) (l .loop .inv) (c .before .before .loop-test .taken) (c .burden-of .ensures) (c .before .share .ensures))
 
 returns : tie.Need-returns Inv-loop μ-loop
 returns c =
-    let ready = c .before .before .before .before .before .pre in
-    let l = c .before .before .before .before .loop in
-    day-refused ready _ refl
-    (day-stop ready (l .here) (l .k) (l .inv) (c .before .before .before .loop-test .taken) _ (c .before .before .share .ensures)
-    (omega (arith, c .if1 .taken, c .before .burden-of .ensures)))
+    let b = c .before in
+    let l = b .before .before .before in
+    day-refused (l .before .pre) (l .loop .k) (l .loop .inv) (b .before .before .loop-test .taken) (b .burden-of .ensures) (b .before .share .ensures) (c .if1 .taken)
 
 step-requires : tie.Need-step-requires Inv-loop μ-loop
 step-requires c κs =
-    let ready = c .before .before .before .before .before .pre in
-    let l = c .before .before .before .before .loop in
-    day-ready ready (l .here) (l .k) (l .inv) (c .before .before .before .loop-test .taken) _ (c .before .before .share .ensures) (omega arith)
-    (omega (arith, c .if1 .left, c .before .burden-of .ensures))
+    let b = c .before in
+    let l = b .before .before .before in
+    day-ready (l .before .pre) (l .loop .k) (l .loop .inv) (b .before .before .loop-test .taken) (b .burden-of .ensures) (b .before .share .ensures) (omega arith) (c .if1 .left)
 
 add-k : tie.Need-add-k Inv-loop μ-loop
 add-k c = search needs
@@ -55,13 +51,11 @@ loop-less c = search needs
 loop-again : tie.Need-loop-again Inv-loop μ-loop
 loop-again c =
     let b = c .before .before in
-    let ready = b .before .before .before .before .pre in
-    let l = b .before .before .before .loop in
-    day-next ready (l .here) (l .k) (l .inv) (b .before .before .loop-test .taken) _ (b .before .share .ensures)
-    (omega (arith, c .before .if1 .left, b .burden-of .ensures)) _ (c .step .ensures)
+    let l = b .before .before .before in
+    day-next (l .before .pre) (l .loop .k) (l .loop .inv) (b .before .before .loop-test .taken) (b .burden-of .ensures) (b .before .share .ensures) (c .before .if1 .left) _ (c .step .ensures)
 
 returns-2 : tie.Need-returns-2 Inv-loop μ-loop
-returns-2 c = day-end (c .before .before .pre) (c .before .loop .here) (c .before .loop .k) (c .before .loop .inv) (c .loop-test .left)
+returns-2 c = day-end (c .before .before .pre) (c .before .loop .k) (c .before .loop .inv) (c .loop-test .left)
 
 pub day-spec : {M : Type 1} → statement M
 day-spec =

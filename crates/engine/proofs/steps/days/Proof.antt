@@ -2,12 +2,13 @@
 -- Assumes nothing.
 use Prim.Native.Nat.{_-_}
 use borrow.Author.Needs.{needs}
-use Rattle.engine.proofs.Loops.{InMonth, month-start, month-ready, month-refused, month-next, month-end}
+use Rattle.engine.specs.Steps.{daysShares}
+use Rattle.engine.proofs.Loops.{Ahead, month-start, month-ready, month-refused, month-next, month-end}
 use Rattle.engine.proofs.steps.days.Statement.{statement}
 use Rattle.engine.proofs.steps.days.Tie as tie
 
 abbrev Inv-loop : tie.InvT-loop
-Inv-loop rates prepared s t here₀ d₀ here d = InMonth rates here₀ s t here d
+Inv-loop rates prepared s t here₀ d₀ here d = Ahead rates here₀ (daysShares s t 30) here (daysShares s t (30 - d))
 
 abbrev μ-loop : tie.MeasureT-loop
 μ-loop rates prepared s t here₀ d₀ here d = 30 - d
@@ -16,13 +17,13 @@ loop-holds : tie.Need-loop-holds Inv-loop μ-loop
 loop-holds c = month-start (c .pre)
 
 day-requires : tie.Need-day-requires Inv-loop μ-loop
-day-requires c κs = month-ready (c .before .before .pre) (c .before .loop .here) (c .before .loop .d) (c .before .loop .inv) (c .loop-test .taken)
+day-requires c κs = month-ready (c .before .before .pre) (c .before .loop .d) (c .before .loop .inv) (c .loop-test .taken)
 
 returns : tie.Need-returns Inv-loop μ-loop
 returns c =
     let day = c .before .before in
     let l = day .before .before in
-    month-refused (l .before .pre) (l .loop .here) (l .loop .d) (l .loop .inv) (day .before .loop-test .taken) _ (day .day .ensures) (c .if1 .taken)
+    month-refused (l .before .pre) (l .loop .d) (l .loop .inv) (day .before .loop-test .taken) (day .day .ensures) (c .if1 .taken)
 
 add-d : tie.Need-add-d Inv-loop μ-loop
 add-d c = search needs
@@ -34,10 +35,10 @@ loop-again : tie.Need-loop-again Inv-loop μ-loop
 loop-again c =
     let day = c .before .before .before in
     let l = day .before .before in
-    month-next (l .before .pre) (l .loop .here) (l .loop .d) (l .loop .inv) (day .before .loop-test .taken) _ (day .day .ensures) (c .before .if1 .left)
+    month-next (l .before .pre) (l .loop .d) (l .loop .inv) (day .before .loop-test .taken) (day .day .ensures) (c .before .if1 .left)
 
 returns-2 : tie.Need-returns-2 Inv-loop μ-loop
-returns-2 c = month-end (c .before .before .pre) (c .before .loop .here) (c .before .loop .d) (c .before .loop .inv) (c .loop-test .left)
+returns-2 c = month-end (c .before .before .pre) (c .before .loop .d) (c .before .loop .inv) (c .loop-test .left)
 
 pub days-spec : {M : Type 1} → statement M
 days-spec =
