@@ -2,7 +2,7 @@
 -- Assumes nothing.
 use Prim.Native.Nat.{ℕ, suc, _+_, _≤_}
 use mathlib.Core.Path.{_≡_, refl, ap, _∙_}
-use mathlib.Core.List.{List, [], _∷_, _++_}
+use mathlib.Core.List.{List, [], _∷_}
 use native.Mathlib.Omega.{arith}
 use borrow.Author.Tests.{leb-true}
 use lib.ListN.{length}
@@ -13,53 +13,45 @@ use Rattle.numbers.proofs.Refusals.{orElse-none, unless-none}
 use Rattle.book.specs.declared.Rates.{Rates}
 use Rattle.book.specs.Limits.{RateLimits}
 use Rattle.kinetics.specs.declared.State.{State}
-use Rattle.kinetics.specs.Step.{burden, exits, exitSum, next, burdenLimit}
-use Rattle.kinetics.specs.Solution.{Margin}
+use Rattle.kinetics.specs.Step.{Exits, burden, burdenLimit, urineLedger, faecesLedger, skinLedger, exits, exitSum, next}
 use Rattle.kinetics.proofs.StepLaws.{step-law}
 use Rattle.engine.specs.Steps.{Step, exitsOf, leaves, stepsFrom, lastFrom, stepsRefusal}
-use Rattle.engine.specs.Conservation.{Chain, Balanced}
-use Rattle.numbers.proofs.Lists.{total-append, each-append}
+use Rattle.engine.specs.Conservation.{Chain}
 use Rattle.engine.proofs.Shares.{sumOf}
 
--- balances: of no step, of one step, and of two lists of steps
-pub no-step-balanced : (a : State) → Balanced a a [] 0
-no-step-balanced a = record { lead = omega arith; urine = omega arith; faeces = omega arith; skin = omega arith; margins = tt }
+-- what left by one of the exits, over steps
+abbrev pub leftIn : (Exits → ℕ) → List Step → ℕ
+leftIn exit xs = totalOf (λ (x : Step). exit (exitsOf x)) xs
+
+-- from a to b by the steps xs, which take up t
+pub record StepsBalanced (a b : State) (xs : List Step) (t : ℕ) : Type 0 where
+  pub lead : burden (b .lead) + (leftIn (λ x. x .urine) xs + leftIn (λ x. x .faeces) xs + leftIn (λ x. x .skin) xs) ≡ burden (a .lead) + t
+  pub urine : urineLedger b ≡ urineLedger a + leftIn (λ x. x .urine) xs
+  pub faeces : faecesLedger b ≡ faecesLedger a + leftIn (λ x. x .faeces) xs
+  pub skin : skinLedger b ≡ skinLedger a + leftIn (λ x. x .skin) xs
+
+-- balances: of no step, and of one step more before others
+no-step-balanced : (a : State) → StepsBalanced a a [] 0
+no-step-balanced a = record { lead = omega arith; urine = omega arith; faeces = omega arith; skin = omega arith }
 
 module _ (r : Rates) (a : State) (u : ℕ) (limits : RateLimits r) where
   pub step-conserves : burden (next r a u .lead) + exitSum (exits r (a .lead) u) ≡ burden (a .lead) + u
   step-conserves = let k = step-law r a u limits in rw (k .lead) (k .law .conserved)
 
-  pub step-balanced : Balanced a (next r a u) (record { before = a; rates = r; uptake = u } ∷ []) u
-  step-balanced =
+  step-before-balanced : (b : State) (xs : List Step) (t : ℕ) → StepsBalanced (next r a u) b xs t
+      → StepsBalanced a b (record { before = a; rates = r; uptake = u } ∷ xs) (u + t)
+  step-before-balanced b xs t rest =
       let k = step-law r a u limits in
       let c = step-conserves in
-      record { lead = omega arith; urine = omega arith; faeces = omega arith; skin = omega arith; margins = (k .law .margin, tt) }
-
-pub balanced-append : {a b c : State} (xs ys : List Step) {t u : ℕ} → Balanced a b xs t → Balanced b c ys u → Balanced a c (xs ++ ys) (t + u)
-balanced-append xs ys p q =
-    let eu = total-append (λ (x : Step). exitsOf x .urine) xs ys in
-    let ef = total-append (λ (x : Step). exitsOf x .faeces) xs ys in
-    let es = total-append (λ (x : Step). exitsOf x .skin) xs ys in
-    record {
-      lead = omega arith;
-      urine = omega arith;
-      faeces = omega arith;
-      skin = omega arith;
-      margins = each-append (λ (x : Step). Margin (x .rates) (x .before .lead) (x .uptake)) xs ys (p .margins) (q .margins);
-    }
+      record { lead = omega arith; urine = omega arith; faeces = omega arith; skin = omega arith }
 
 -- a chain tells its last state by the compartments and the ledgers alone
 pub chain-to : (a b c : State) (xs : List Step) → b .lead ≡ c .lead → b .ledgers ≡ c .ledgers → Chain a xs b → Chain a xs c
 chain-to a b c [] p q h = (h .0 ∙ p, h .1 ∙ q)
-chain-to a b c (x ∷ xs) p q h = (h .0, chain-to (leaves x) b c xs p q (h .1))
+chain-to a b c (x ∷ xs) p q h = (h .0, (h .1 .0, chain-to (leaves x) b c xs p q (h .1 .1)))
 
 -- steps from a that absorb us
 module _ (rates : State → Rates) where
-  pub steps-chain : (a : State) (us : List ℕ) → Chain a (stepsFrom rates a us) (lastFrom rates a us)
-  unfolding stepsFrom lastFrom
-  steps-chain a [] = (refl, refl)
-  steps-chain a (u ∷ us) = (refl, steps-chain (next (rates a) a u) us)
-
   pub steps-count : (a : State) (us : List ℕ) → length (stepsFrom rates a us) ≡ length us
   unfolding stepsFrom
   steps-count a [] = refl
@@ -71,10 +63,15 @@ module _ (rates : State → Rates) where
   steps-uptake a (u ∷ us) = ap (u +_) (steps-uptake (next (rates a) a u) us)
 
   module _ (limits : (b : State) → RateLimits (rates b)) where
-    pub steps-balance : (a : State) (us : List ℕ) → Balanced a (lastFrom rates a us) (stepsFrom rates a us) (sumOf us)
+    pub steps-chain : (a : State) (us : List ℕ) → Chain a (stepsFrom rates a us) (lastFrom rates a us)
+    unfolding stepsFrom lastFrom
+    steps-chain a [] = (refl, refl)
+    steps-chain a (u ∷ us) = (refl, (step-law (rates a) a u (limits a) .law .margin, steps-chain (next (rates a) a u) us))
+
+    pub steps-balance : (a : State) (us : List ℕ) → StepsBalanced a (lastFrom rates a us) (stepsFrom rates a us) (sumOf us)
     unfolding stepsFrom lastFrom
     steps-balance a [] = no-step-balanced a
-    steps-balance a (u ∷ us) = balanced-append (_ ∷ []) _ (step-balanced (rates a) a u (limits a)) (steps-balance (next (rates a) a u) us)
+    steps-balance a (u ∷ us) = step-before-balanced (rates a) a u (limits a) _ _ _ (steps-balance (next (rates a) a u) us)
 
     -- where no step is refused, the burden stays within its limit
     pub steps-within :

@@ -22,12 +22,12 @@ use Rattle.engine.specs.State.{lastMonth, stateRefusal}
 use Rattle.engine.specs.Steps.{stepsFrom, lastFrom, stepsRefusal}
 use Rattle.engine.specs.Birth.{newborn, newbornRefusal, birthRefusal, birthOf}
 use Rattle.engine.specs.Month.{monthAfter, exposureIn, monthUptake, monthRates, monthShares, childRefusal, monthLast, monthRefusal, monthOf}
-use Rattle.engine.specs.Conservation.{Month, Balanced, WholeMonth, dailyOf, stepsOf}
+use Rattle.engine.specs.Conservation.{Month, WholeMonth, dailyOf, stepsOf}
 use Rattle.engine.specs.Ready.{Decoded}
 use Rattle.engine.proofs.Shares.{days-total, days-length, sumOf}
 use Rattle.engine.proofs.Passed.{decoded, Sound, passed-sound, month-after-most}
 use Rattle.engine.proofs.Calls.{answer-refusal, birth-answer-refusal}
-use Rattle.engine.proofs.Course.{chain-to, steps-chain, steps-count, steps-uptake, steps-balance, steps-within}
+use Rattle.engine.proofs.Course.{StepsBalanced, chain-to, steps-chain, steps-count, steps-uptake, steps-balance, steps-within}
 
 -- the state that an accepted call answers, with the compartments and ledgers of the state that its steps left
 abbrev ended : State → State → State
@@ -49,7 +49,7 @@ module _ (s : ℕ) (a : State) (f : Files) where
 -- an accepted call
 pub record Accepted (s : ℕ) (m : Month) : Type 0 where
   pub whole : WholeMonth s m
-  pub balance : Balanced (m .before) (m .after) (stepsOf s m) (30 * dailyOf m)
+  pub balance : StepsBalanced (m .before) (m .after) (stepsOf s m) (30 * dailyOf m)
   pub sound : Sound (m .after)
 
 module _ (s : ℕ) (pos : 0 < s) (a : State) (f : Files) (accepted : monthRefusal s a f ≡ 0) where
@@ -104,10 +104,10 @@ module _ (s : ℕ) (pos : 0 < s) (a : State) (f : Files) (accepted : monthRefusa
   abbrev last : State
   last = lastFrom rates a uptakes
 
-  month-balance : Balanced a (ended a last) (stepsFrom rates a uptakes) (30 * T)
+  month-balance : StepsBalanced a (ended a last) (stepsFrom rates a uptakes) (30 * T)
   month-balance =
       let b = rw uptakes-total at (steps-balance rates rates-within a uptakes) in
-      record { lead = b .lead; urine = b .urine; faeces = b .faeces; skin = b .skin; margins = b .margins }
+      record { lead = b .lead; urine = b .urine; faeces = b .faeces; skin = b .skin }
 
   accepted-end : Accepted s (record { before = a; files = f; after = ended a last })
   accepted-end =
@@ -116,7 +116,7 @@ module _ (s : ℕ) (pos : 0 < s) (a : State) (f : Files) (accepted : monthRefusa
       record {
         whole = record {
           number = refl;
-          chain = chain-to a last (ended a last) (stepsFrom rates a uptakes) refl refl (steps-chain rates a uptakes);
+          chain = chain-to a last (ended a last) (stepsFrom rates a uptakes) refl refl (steps-chain rates rates-within a uptakes);
           count = steps-count rates a uptakes ∙ uptakes-count;
           uptake = steps-uptake rates a uptakes ∙ uptakes-total;
         };

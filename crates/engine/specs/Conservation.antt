@@ -2,15 +2,14 @@
 -- Assumes nothing.
 use Prim.Native.Nat.{ℕ, zero, suc, _+_, _-_, _*_, _≤_, _<_}
 use mathlib.Core.Path.{_≡_}
-use mathlib.Core.List.{List, [], _∷_, _++_, map}
+use mathlib.Core.List.{List, [], _∷_, map}
 use lib.ListN.{length, getD, take, drop}
-use Rattle.numbers.specs.Lists.{Each, totalOf}
+use Rattle.numbers.specs.Lists.{totalOf}
 use Rattle.kinetics.specs.declared.State.{State}
 use Rattle.kinetics.specs.Step.{Exits, burden, urineLedger, faecesLedger, skinLedger}
 use Rattle.kinetics.specs.Solution.{Margin}
 use Rattle.engine.specs.Files.{Files, scenarioIn, tableIn}
 use Rattle.engine.specs.Steps.{Step, exitsOf, leaves, stepsFrom}
-use Rattle.engine.specs.Birth.{birthOf}
 use Rattle.engine.specs.Month.{monthAfter, monthUptake, monthRates, monthShares, monthOf}
 
 -- an accepted month call: the state it got, its files, the state it answered
@@ -19,7 +18,7 @@ pub record Month : Type 0 where
   pub files : Files
   pub after : State
 
--- the accepted ones of month calls, each with its own files: the first gets the state a, each later one what the one before answered
+-- the accepted ones of month calls, each with its own files: the first gets a, each later one what the one before answered
 abbrev pub keep : ℕ → Month → List Month → List Month
 keep zero m ms = m ∷ ms
 keep (suc r) m ms = ms
@@ -27,9 +26,10 @@ keep (suc r) m ms = ms
 unfoldable pub accepted : ℕ → State → List Files → List Month
 accepted s a [] = []
 accepted s a (f ∷ fs) =
-    keep (monthOf s a f .refusal) (record { before = a; files = f; after = monthOf s a f .state }) (accepted s (monthOf s a f .state) fs)
+    let answer = monthOf s a f in
+    keep (answer .refusal) (record { before = a; files = f; after = answer .state }) (accepted s (answer .state) fs)
 
--- T of an accepted month, from its own files, for the month after that of the state it got; its steps; the steps of months
+-- T of an accepted month, from its own files, for the month after that of the state it got; and its steps
 abbrev pub dailyOf : Month → ℕ
 dailyOf m = monthUptake (scenarioIn (m .files)) (tableIn (m .files)) (monthAfter (m .before))
 
@@ -38,14 +38,11 @@ stepsOf s m =
     stepsFrom (monthRates (tableIn (m .files)) (monthAfter (m .before))) (m .before)
     (monthShares s (scenarioIn (m .files)) (tableIn (m .files)) (monthAfter (m .before)))
 
-abbrev pub stepsIn : ℕ → List Month → List Step
-stepsIn s [] = []
-stepsIn s (m ∷ ms) = stepsOf s m ++ stepsIn s ms
-
--- the first step starts from a, each later one from what the one before left, the last leaves the compartments and ledgers of b
+-- the first step starts from a, each later one from what the one before left, and the last leaves the compartments and ledgers of b;
+-- after each, plasma lies within the margin
 abbrev pub Chain : State → List Step → State → Type 0
 Chain a [] b = (a .lead ≡ b .lead) × (a .ledgers ≡ b .ledgers)
-Chain a (x ∷ xs) b = (x .before ≡ a) × Chain (leaves x) xs b
+Chain a (x ∷ xs) b = (x .before ≡ a) × (Margin (x .rates) (x .before .lead) (x .uptake) × Chain (leaves x) xs b)
 
 -- an accepted call is a whole month: its number is one more, its steps are a chain, 30 s of them, and their U sum to 30 T
 pub record WholeMonth (s : ℕ) (m : Month) : Type 0 where
@@ -54,35 +51,34 @@ pub record WholeMonth (s : ℕ) (m : Month) : Type 0 where
   pub count : length (stepsOf s m) ≡ 30 * s
   pub uptake : totalOf (λ (x : Step). x .uptake) (stepsOf s m) ≡ 30 * dailyOf m
 
--- what left by one of the exits, over steps
-abbrev pub leftBy : (Exits → ℕ) → List Step → ℕ
-leftBy exit xs = totalOf (λ (x : Step). exit (exitsOf x)) xs
+-- accepted months: the first got a, each later one the month end before it, and each is a whole month
+abbrev pub Months : ℕ → State → List Month → Type 0
+Months s a [] = Unit {0}
+Months s a (m ∷ ms) = (m .before ≡ a) × (WholeMonth s m × Months s (m .after) ms)
 
--- from a to b by the steps xs, which take up t: lead balances, each ledger grows by its own exits, plasma is within the margin after each
-pub record Balanced (a b : State) (xs : List Step) (t : ℕ) : Type 0 where
-  pub lead : burden (b .lead) + (leftBy (λ x. x .urine) xs + leftBy (λ x. x .faeces) xs + leftBy (λ x. x .skin) xs) ≡ burden (a .lead) + t
-  pub urine : urineLedger b ≡ urineLedger a + leftBy (λ x. x .urine) xs
-  pub faeces : faecesLedger b ≡ faecesLedger a + leftBy (λ x. x .faeces) xs
-  pub skin : skinLedger b ≡ skinLedger a + leftBy (λ x. x .skin) xs
-  pub margins : Each (λ (x : Step). Margin (x .rates) (x .before .lead) (x .uptake)) xs
+-- what left by one of the exits, over the steps of months
+abbrev pub leftBy : (Exits → ℕ) → ℕ → List Month → ℕ
+leftBy exit s ms = totalOf (λ (m : Month). totalOf (λ (x : Step). exit (exitsOf x)) (stepsOf s m)) ms
 
--- month end i: the state a that birth answered, then what each accepted call answered; and the months between the ends i and j
+-- from the end a to the end b, between which the months ms were accepted: lead balances, and each ledger grows by its own exits
+pub record Balanced (s : ℕ) (a b : State) (ms : List Month) : Type 0 where
+  pub lead :
+      burden (b .lead) + (leftBy (λ x. x .urine) s ms + leftBy (λ x. x .faeces) s ms + leftBy (λ x. x .skin) s ms)
+      ≡ burden (a .lead) + totalOf (λ (m : Month). 30 * dailyOf m) ms
+  pub urine : urineLedger b ≡ urineLedger a + leftBy (λ x. x .urine) s ms
+  pub faeces : faecesLedger b ≡ faecesLedger a + leftBy (λ x. x .faeces) s ms
+  pub skin : skinLedger b ≡ skinLedger a + leftBy (λ x. x .skin) s ms
+
+-- month end i: the state a, then what each accepted call answered
 abbrev pub endAt : State → List Month → ℕ → State
 endAt a ms i = getD (a ∷ map (λ (m : Month). m .after) ms) i a
 
-abbrev pub between : ℕ → ℕ → List Month → List Month
-between i j ms = take (j - i) (drop i ms)
-
--- accepted months after the birth of a: each is a whole month and starts from the month end before it, and every two ends balance
+-- accepted months after the end a: whole months one after the other, and every two ends balance
 pub record Conserved (s : ℕ) (a : State) (ms : List Month) : Type 0 where
-  pub whole : Each (WholeMonth s) ms
-  pub starts : (i : ℕ) → i < length ms → getD (map (λ (m : Month). m .before) ms) i a ≡ endAt a ms i
-  pub balance :
-      (i j : ℕ) → i ≤ j → j ≤ length ms
-      → Balanced (endAt a ms i) (endAt a ms j) (stepsIn s (between i j ms)) (totalOf (λ (m : Month). 30 * dailyOf m) (between i j ms))
+  pub months : Months s a ms
+  pub balance : (i j : ℕ) → i ≤ j → j ≤ length ms → Balanced s (endAt a ms i) (endAt a ms j) (take (j - i) (drop i ms))
 
--- DEMAND 3: for any positive number of steps a day, every site file and book whose birth is accepted, and every list of month calls
+-- DEMAND 3: for any positive number of steps a day, from what the accepted birth answered, as from any other state a,
+-- over every list of month calls
 abbrev pub Demand3 : Type 0
-Demand3 =
-    (s : ℕ) → 0 < s → (birth : Files) → birthOf birth .refusal ≡ 0 → (calls : List Files)
-    → Conserved s (birthOf birth .state) (accepted s (birthOf birth .state) calls)
+Demand3 = (s : ℕ) → 0 < s → (a : State) (calls : List Files) → Conserved s a (accepted s a calls)
