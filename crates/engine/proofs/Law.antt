@@ -12,9 +12,9 @@ use Rattle.engine.specs.Files.{Files}
 use Rattle.engine.specs.Birth.{birthOf}
 use Rattle.engine.specs.Month.{monthRefusal, monthOf}
 use Rattle.engine.specs.Conservation.{Month, keep, accepted, dailyOf, stepsOf, Months, Balanced, Demand3}
-use Rattle.engine.specs.Laws.{numbers, StateLaw}
+use Rattle.engine.specs.Laws.{refusals, StateLaw}
 use Rattle.engine.proofs.Passed.{Sound}
-use Rattle.engine.proofs.Never20.{month-not-20}
+use Rattle.engine.proofs.StateRefusals.{month-not-20}
 use Rattle.engine.proofs.Course.{StepsBalanced}
 use Rattle.engine.proofs.MonthLaw.{Accepted, month-refusal, month-kept, month-accepted, month-sound, birth-sound}
 
@@ -69,11 +69,11 @@ module _ (s : ℕ) (pos : 0 < s) where
   accepted-linked a [] = tt
   accepted-linked a (f ∷ fs) = linked-after-call a f _ (accepted-linked (monthOf s a f .state) fs) (monthOf s a f .refusal) (sym (month-refusal s a f))
 
-  never-20 : (a : State) (calls : List Files) → Sound a → Each (λ (r : ℕ). r ≡ 20 → ⊥) (numbers s a calls)
-  unfolding numbers
+  never-20 : (a : State) (calls : List Files) → Sound a → Each (λ (r : ℕ). r ≡ 20 → ⊥) (refusals s a calls)
+  unfolding refusals
   never-20 a [] k = tt
   never-20 a (f ∷ fs) k =
-      (λ e. month-not-20 s f k (sym (month-refusal s a f) ∙ e), never-20 (monthOf s a f .state) fs (month-sound s pos a f k))
+      (λ e. month-not-20 k s f (sym (month-refusal s a f) ∙ e), never-20 (monthOf s a f .state) fs (month-sound s pos a f k))
 
 pub demand3 : Demand3
 demand3 s pos a calls =

@@ -7,8 +7,9 @@ pub mod Course
 pub mod Law
 pub mod Loops
 pub mod MonthLaw
-pub mod Never20
 pub mod Passed
+pub mod RunLaw
 pub mod Runs
 pub mod Shares
 pub mod StateCheck
+pub mod StateRefusals

@@ -16,6 +16,7 @@ use Rattle.uptake.specs.Intake.{intakeRefusal}
 use Rattle.uptake.proofs.Laws.{age-law, day-law}
 use Rattle.kinetics.specs.declared.State.{State}
 use Rattle.kinetics.specs.Step.{burden, burdenLimit}
+use Rattle.kinetics.specs.Birth.{birthState}
 use Rattle.kinetics.proofs.Newborn.{birth-law}
 use Rattle.engine.specs.Files.{Files, filesRefusal, scenarioIn, tableIn}
 use Rattle.engine.specs.State.{lastMonth, stateRefusal}
@@ -168,3 +169,7 @@ module _ (f : Files) (accepted : birthOf f .refusal ≡ 0) where
   pub birth-sound : Sound (birthOf f .state)
   unfolding birthOf
   birth-sound = rw birth-accepted newborn-sound
+
+  pub birth-month : birthOf f .state .month ≡ 0
+  unfolding birthOf newborn birthState
+  birth-month = rw birth-accepted
