@@ -9,7 +9,7 @@ use Rattle.kinetics.specs.declared.State.{State}
 use Rattle.kinetics.specs.Step.{Exits, burden, urineLedger, faecesLedger, skinLedger}
 use Rattle.kinetics.specs.Solution.{Margin}
 use Rattle.engine.specs.Files.{Files, scenarioIn, tableIn}
-use Rattle.engine.specs.Steps.{Step, exitsOf, leaves, stepsFrom}
+use Rattle.engine.specs.Steps.{daysAMonth, Step, exitsOf, leaves, stepsFrom}
 use Rattle.engine.specs.Month.{monthAfter, monthUptake, monthRates, monthShares, monthOf}
 
 -- an accepted month call: the state it got, its files, the state it answered
@@ -48,8 +48,8 @@ Chain a (x ∷ xs) b = (x .before ≡ a) × (Margin (x .rates) (x .before .lead)
 pub record WholeMonth (s : ℕ) (m : Month) : Type 0 where
   pub number : m .after .month ≡ m .before .month + 1
   pub chain : Chain (m .before) (stepsOf s m) (m .after)
-  pub count : length (stepsOf s m) ≡ 30 * s
-  pub uptake : totalOf (λ (x : Step). x .uptake) (stepsOf s m) ≡ 30 * dailyOf m
+  pub count : length (stepsOf s m) ≡ daysAMonth * s
+  pub uptake : totalOf (λ (x : Step). x .uptake) (stepsOf s m) ≡ daysAMonth * dailyOf m
 
 -- accepted months: the first got a, each later one the month end before it, and each is a whole month
 abbrev pub Months : ℕ → State → List Month → Type 0
@@ -64,7 +64,7 @@ leftBy exit s ms = totalOf (λ (m : Month). totalOf (λ (x : Step). exit (exitsO
 pub record Balanced (s : ℕ) (a b : State) (ms : List Month) : Type 0 where
   pub lead :
       burden (b .lead) + (leftBy (λ x. x .urine) s ms + leftBy (λ x. x .faeces) s ms + leftBy (λ x. x .skin) s ms)
-      ≡ burden (a .lead) + totalOf (λ (m : Month). 30 * dailyOf m) ms
+      ≡ burden (a .lead) + totalOf (λ (m : Month). daysAMonth * dailyOf m) ms
   pub urine : urineLedger b ≡ urineLedger a + leftBy (λ x. x .urine) s ms
   pub faeces : faecesLedger b ≡ faecesLedger a + leftBy (λ x. x .faeces) s ms
   pub skin : skinLedger b ≡ skinLedger a + leftBy (λ x. x .skin) s ms

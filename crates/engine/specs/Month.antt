@@ -17,7 +17,7 @@ use Rattle.kinetics.specs.Blood.{bloodOf}
 use Rattle.engine.specs.declared.MonthAnswer.{MonthAnswer}
 use Rattle.engine.specs.Files.{Files, filesRefusal, scenarioIn, tableIn}
 use Rattle.engine.specs.State.{stateRefusal}
-use Rattle.engine.specs.Steps.{daysShares, lastFrom, stepsRefusal}
+use Rattle.engine.specs.Steps.{daysAMonth, daysShares, lastFrom, stepsRefusal}
 
 -- the month that a call from state a makes: the one after that of a
 abbrev pub monthAfter : State → ℕ
@@ -37,7 +37,7 @@ monthRates table m a = rowOf table m .rates
 
 -- what the steps of a month absorb: thirty days of T
 unfoldable pub monthShares : ℕ → Scenario → List ℕ → ℕ → List ℕ
-monthShares s scenario table m = daysShares s (monthUptake scenario table m) 30
+monthShares s scenario table m = daysShares s (monthUptake scenario table m) daysAMonth
 
 -- a refused month returns the state it was given, and blood 0; an accepted one the state its steps left, with the month's number
 abbrev pub refusedMonth : ℕ → State → MonthAnswer

@@ -23,7 +23,7 @@ use Rattle.uptake.specs.Intake.{intakeRefusal}
 use Rattle.engine.specs.declared.FilesRead.{FilesRead}
 use Rattle.engine.specs.declared.MonthAnswer.{MonthAnswer}
 use Rattle.engine.specs.Files.{Files, filesRefusal, scenarioIn, tableIn}
-use Rattle.engine.specs.Steps.{daysShares, lastFrom, stepsRefusal}
+use Rattle.engine.specs.Steps.{daysAMonth, daysShares, lastFrom, stepsRefusal}
 use Rattle.engine.specs.Month.{monthAfter, exposureIn, monthRates, monthShares, monthAnswer, childRefusal, monthLast}
 
 -- a scenario and a table that accepted files give
@@ -58,7 +58,7 @@ pub record FilesDone (f : Files) (table : List ℕ) (r : FilesRead) : Type 0 whe
 -- a month by its parts: its steps, where its row and T are known; after the state's refusals; and with them
 unfoldable pub steppedMonth : ℕ → State → Row → ℕ → MonthAnswer
 steppedMonth s a row t =
-    monthAnswer (stepsRefusal (λ b. row .rates) a (daysShares s t 30)) a (lastFrom (λ b. row .rates) a (daysShares s t 30)) row
+    monthAnswer (stepsRefusal (λ b. row .rates) a (daysShares s t daysAMonth)) a (lastFrom (λ b. row .rates) a (daysShares s t daysAMonth)) row
 
 module _ (s : ℕ) (a : State) (scenario : Scenario) (table : List ℕ) where
   unfoldable pub monthFrom : MonthAnswer

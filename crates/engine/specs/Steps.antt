@@ -9,6 +9,13 @@ use Rattle.kinetics.specs.declared.State.{State}
 use Rattle.kinetics.specs.Share.{shareOf}
 use Rattle.kinetics.specs.Step.{burden, burdenLimit, Exits, exits, next}
 
+-- six steps a day, 30 days a month
+abbrev pub stepsADay : ℕ
+stepsADay = 6
+
+abbrev pub daysAMonth : ℕ
+daysAMonth = 30
+
 -- what n steps absorb of a day's uptake T, from step k on
 unfoldable pub sharesFrom : ℕ → ℕ → ℕ → ℕ → List ℕ
 sharesFrom s T k zero = []

@@ -14,6 +14,7 @@ ghost use lib.ListN.{length};
 ghost use Rattle.book.specs.Limits.{RowLimits};
 ghost use Rattle.kinetics.specs.Step.{burden, burdenLimit};
 ghost use Rattle.engine.specs.State.{zeroState, stateRefusal};
+ghost use Rattle.engine.specs.Steps.{stepsADay};
 ghost use Rattle.engine.specs.Birth.{newborn, newbornRefusal, birthAnswer};
 ghost use Rattle.engine.specs.Month.{refusedMonth, acceptedMonth};
 ghost use Rattle.engine.specs.Ready.{Decoded, steppedMonth, monthFrom, childMonth};
@@ -91,7 +92,7 @@ fn accepted_month(state: State, last: State, row: Row) -> MonthAnswer
 // The month's steps, where its row and its day's uptake t are known.
 fn stepped_month(state: State, row: Row, t: u64) -> MonthAnswer
     requires { ⌜ (stateRefusal state ≡ 0) × (RowLimits row) × (t ≤ 6_000_000_000) ⌝ }
-    ensures { λ r. ⌜ r ≡ steppedMonth 6 state row t ⌝ }
+    ensures { λ r. ⌜ r ≡ steppedMonth stepsADay state row t ⌝ }
 {
     let rates = row.rates;
     let prepared = kinetics::prepare::prepare(rates);
@@ -107,7 +108,7 @@ fn stepped_month(state: State, row: Row, t: u64) -> MonthAnswer
 // A month of a child whose state can have one.
 fn month_after(state: State, scenario: Scenario, table: &[u32]) -> MonthAnswer
     requires { ⌜ (length (now table) ≡ 1955) × (Decoded scenario (now table)) × (stateRefusal state ≡ 0) ⌝ }
-    ensures { λ r. ⌜ r ≡ monthFrom 6 state scenario (now (table .entry)) ⌝ }
+    ensures { λ r. ⌜ r ≡ monthFrom stepsADay state scenario (now (table .entry)) ⌝ }
 {
     let month = state.month + 1;
     let age = uptake::age::age_of(month);
@@ -126,7 +127,7 @@ fn month_after(state: State, scenario: Scenario, table: &[u32]) -> MonthAnswer
 // A month from accepted files: refusals 20, 21, 9, 22.
 pub fn child_month(state: State, scenario: Scenario, table: &[u32]) -> MonthAnswer
     requires { ⌜ (length (now table) ≡ 1955) × (Decoded scenario (now table)) ⌝ }
-    ensures { λ r. ⌜ r ≡ childMonth 6 state scenario (now (table .entry)) ⌝ }
+    ensures { λ r. ⌜ r ≡ childMonth stepsADay state scenario (now (table .entry)) ⌝ }
 {
     let refusal = check::state_refusal(state);
     if refusal != 0 {

@@ -4,6 +4,7 @@ use kinetics::State;
 use site::Scenario;
 ghost use mathlib.Core.Path.{_≡_};
 ghost use lib.ListN.{length};
+ghost use Rattle.engine.specs.Steps.{stepsADay};
 ghost use Rattle.engine.specs.Birth.{birthOf};
 ghost use Rattle.engine.specs.Month.{monthOf};
 ghost use Rattle.engine.specs.Ready.{refusedRun};
@@ -77,7 +78,7 @@ pub fn birth(site: &[u8], book: &[u8]) -> BirthAnswer
 
 // One month: the child a month later, and its blood figure.
 pub fn month(state: State, site: &[u8], book: &[u8]) -> MonthAnswer
-    ensures { λ r. ⌜ r ≡ monthOf 6 state (filesOf (now (site .entry)) (now (book .entry))) ⌝ }
+    ensures { λ r. ⌜ r ≡ monthOf stepsADay state (filesOf (now (site .entry)) (now (book .entry))) ⌝ }
 {
     let mut table = [0u32; TABLE_NUMBERS];
     let read = files::read_files(site, book, &mut table);
@@ -102,8 +103,8 @@ fn refused_run(refusal: u32) -> RunAnswer
 
 // The run: birth and 84 months, the blood figure of each month done written into the lent list.
 pub fn run(site: &[u8], book: &[u8], blood: &mut [u32]) -> RunAnswer
-    ensures { λ r. ⌜ r ≡ runAnswer (runOf 6 (filesOf (now (site .entry)) (now (book .entry))) (length (now (blood .entry)))) ⌝ }
-    ensures { λ _. ⌜ now (blood .exit) ≡ runList (runOf 6 (filesOf (now (site .entry)) (now (book .entry))) (length (now (blood .entry)))) (now (blood .entry)) ⌝ }
+    ensures { λ r. ⌜ r ≡ runAnswer (runOf stepsADay (filesOf (now (site .entry)) (now (book .entry))) (length (now (blood .entry)))) ⌝ }
+    ensures { λ _. ⌜ now (blood .exit) ≡ runList (runOf stepsADay (filesOf (now (site .entry)) (now (book .entry))) (length (now (blood .entry)))) (now (blood .entry)) ⌝ }
 {
     let lengths = files::length_refusal(site, book);
     if lengths != 0 {

@@ -6,14 +6,15 @@ use kinetics::State;
 use site::Scenario;
 ghost use mathlib.Core.Path.{_≡_};
 ghost use lib.ListN.{length};
+ghost use Rattle.engine.specs.Steps.{stepsADay};
 ghost use Rattle.engine.specs.Run.{runAnswer, runList};
 ghost use Rattle.engine.specs.Ready.{Decoded, childRun};
 
 // 84 months from a state, up to the first that is refused; the figure of each month done is written.
 pub fn months(state: State, scenario: Scenario, table: &[u32], blood: &mut [u32]) -> RunAnswer
     requires { ⌜ (length (now table) ≡ 1955) × ((Decoded scenario (now table)) × (length (now blood) ≡ 84)) ⌝ }
-    ensures { λ r. ⌜ r ≡ runAnswer (childRun 6 state scenario (now (table .entry))) ⌝ }
-    ensures { λ _. ⌜ now (blood .exit) ≡ runList (childRun 6 state scenario (now (table .entry))) (now (blood .entry)) ⌝ }
+    ensures { λ r. ⌜ r ≡ runAnswer (childRun stepsADay state scenario (now (table .entry))) ⌝ }
+    ensures { λ _. ⌜ now (blood .exit) ≡ runList (childRun stepsADay state scenario (now (table .entry))) (now (blood .entry)) ⌝ }
 {
     let mut here = state;
     let mut done: usize = 0;

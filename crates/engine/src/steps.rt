@@ -6,7 +6,7 @@ use book::Rates;
 use kinetics::Prepared;
 use kinetics::State;
 ghost use Prim.Native.Nat.{_*_};
-ghost use Rattle.engine.specs.Steps.{dayShares, daysShares};
+ghost use Rattle.engine.specs.Steps.{daysAMonth, dayShares, daysShares};
 ghost use Rattle.engine.specs.Ready.{Steppable, ReachedBy};
 
 const DAYS_A_MONTH: u64 = 30;
@@ -39,7 +39,7 @@ fn day(rates: Rates, prepared: Prepared, state: State, s: u64, t: u64) -> Reache
 // Thirty days of s steps that absorb t each.
 pub fn days(rates: Rates, prepared: Prepared, state: State, s: u64, t: u64) -> Reached
     requires { ⌜ Steppable rates prepared state s t 180_000_000_000 ⌝ }
-    ensures { λ x. ⌜ ReachedBy rates state (daysShares s t 30) (30 * t) x ⌝ }
+    ensures { λ x. ⌜ ReachedBy rates state (daysShares s t daysAMonth) (daysAMonth * t) x ⌝ }
 {
     let mut here = state;
     let mut d: u64 = 0;

@@ -7,6 +7,7 @@ ghost use lib.ListN.{length};
 ghost use Rattle.block.specs.Writer.{writerRefusal, written};
 ghost use Rattle.site.specs.Site.{readSite};
 ghost use Rattle.book.specs.Book.{bookRefusal, bookTable};
+ghost use Rattle.engine.specs.Steps.{stepsADay};
 ghost use Rattle.engine.specs.Birth.{birthOf};
 ghost use Rattle.engine.specs.Month.{monthOf};
 ghost use Rattle.engine.specs.Run.{runOf, runAnswer, runList};
@@ -109,9 +110,9 @@ pub extern "C" fn jurengate_month(
     state: &mut [u64; WORDS],
     blood: &mut u32,
 ) -> u32
-    ensures { λ r. ⌜ r ≡ monthOf 6 (stateOf (now (state .entry))) (filesOf (now (site .entry)) (now (book .entry))) .refusal ⌝ }
-    ensures { λ _. ⌜ now (state .exit) ≡ wordsOf (monthOf 6 (stateOf (now (state .entry))) (filesOf (now (site .entry)) (now (book .entry))) .state) ⌝ }
-    ensures { λ _. ⌜ now (blood .exit) ≡ monthOf 6 (stateOf (now (state .entry))) (filesOf (now (site .entry)) (now (book .entry))) .blood ⌝ }
+    ensures { λ r. ⌜ r ≡ monthOf stepsADay (stateOf (now (state .entry))) (filesOf (now (site .entry)) (now (book .entry))) .refusal ⌝ }
+    ensures { λ _. ⌜ now (state .exit) ≡ wordsOf (monthOf stepsADay (stateOf (now (state .entry))) (filesOf (now (site .entry)) (now (book .entry))) .state) ⌝ }
+    ensures { λ _. ⌜ now (blood .exit) ≡ monthOf stepsADay (stateOf (now (state .entry))) (filesOf (now (site .entry)) (now (book .entry))) .blood ⌝ }
 {
     let words = *state;
     let child = state_of(words);
@@ -131,10 +132,10 @@ pub extern "C" fn jurengate_run(
     state: &mut [u64; WORDS],
     months: &mut u32,
 ) -> u32
-    ensures { λ r. ⌜ r ≡ runOf 6 (filesOf (now (site .entry)) (now (book .entry))) (length (now (blood .entry))) .refusal ⌝ }
-    ensures { λ _. ⌜ now (blood .exit) ≡ runList (runOf 6 (filesOf (now (site .entry)) (now (book .entry))) (length (now (blood .entry)))) (now (blood .entry)) ⌝ }
-    ensures { λ _. ⌜ now (state .exit) ≡ wordsOf (runOf 6 (filesOf (now (site .entry)) (now (book .entry))) (length (now (blood .entry))) .state) ⌝ }
-    ensures { λ _. ⌜ now (months .exit) ≡ runAnswer (runOf 6 (filesOf (now (site .entry)) (now (book .entry))) (length (now (blood .entry)))) .months ⌝ }
+    ensures { λ r. ⌜ r ≡ runOf stepsADay (filesOf (now (site .entry)) (now (book .entry))) (length (now (blood .entry))) .refusal ⌝ }
+    ensures { λ _. ⌜ now (blood .exit) ≡ runList (runOf stepsADay (filesOf (now (site .entry)) (now (book .entry))) (length (now (blood .entry)))) (now (blood .entry)) ⌝ }
+    ensures { λ _. ⌜ now (state .exit) ≡ wordsOf (runOf stepsADay (filesOf (now (site .entry)) (now (book .entry))) (length (now (blood .entry))) .state) ⌝ }
+    ensures { λ _. ⌜ now (months .exit) ≡ runAnswer (runOf stepsADay (filesOf (now (site .entry)) (now (book .entry))) (length (now (blood .entry)))) .months ⌝ }
 {
     let answer = engine::run(site, book, blood);
     let last = answer.state;
