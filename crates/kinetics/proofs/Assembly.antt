@@ -11,8 +11,19 @@ use Rattle.kinetics.specs.declared.State.{State}
 use Rattle.kinetics.specs.Step.{burden, liver, other, solvedPlasma, newAmount, urineExit, compartmentExit, exits, newPlasma, nextLead, urineLedger, faecesLedger, skinLedger, next}
 use Rattle.kinetics.proofs.Balance.{never-cut-off}
 
--- t all the lead there is, p, the new amounts m1 to m6, and the exits x, y and z
-pub record Parts (r : Rates) (s : State) (u t p m1 m2 m3 m4 m5 m6 x y z : ℕ) : Type 0 where
+-- what the calls before give: t all the lead there is, p, the new amounts m1 to m6, and the exits x, y and z
+pub record Parts (r : Rates) (s : State) (u : ℕ) : Type 0 where
+  pub t : ℕ
+  pub p : ℕ
+  pub m1 : ℕ
+  pub m2 : ℕ
+  pub m3 : ℕ
+  pub m4 : ℕ
+  pub m5 : ℕ
+  pub m6 : ℕ
+  pub x : ℕ
+  pub y : ℕ
+  pub z : ℕ
   pub total : t ≡ burden (s .lead) + u
   pub solved : p ≡ solvedPlasma r (s .lead) u
   pub new1 : m1 ≡ newAmount r (s .lead) (solvedPlasma r (s .lead) u) 0
@@ -25,36 +36,40 @@ pub record Parts (r : Rates) (s : State) (u t p m1 m2 m3 m4 m5 m6 x y z : ℕ) :
   pub faeces : y ≡ r .faeces * m2 / unit
   pub skin : z ≡ r .skin * m4 / unit
 
-module _ {r : Rates} {s : State} {u t p m1 m2 m3 m4 m5 m6 x y z : ℕ} (h : Parts r s u t p m1 m2 m3 m4 m5 m6 x y z) where
-  urine-is : x ≡ urineExit r (solvedPlasma r (s .lead) u)
+abbrev pub amountSum : {r : Rates} {s : State} {u : ℕ} → Parts r s u → ℕ
+amountSum h = h .m1 + h .m2 + h .m3 + h .m4 + h .m5 + h .m6
+
+module _ {r : Rates} {s : State} {u : ℕ} (h : Parts r s u) where
+  urine-is : h .x ≡ urineExit r (solvedPlasma r (s .lead) u)
   unfolding urineExit
   urine-is = h .urine ∙ ap (λ (n : ℕ). r .urine * n / unit) (h .solved)
 
-  faeces-is : y ≡ compartmentExit r (s .lead) (solvedPlasma r (s .lead) u) liver
+  faeces-is : h .y ≡ compartmentExit r (s .lead) (solvedPlasma r (s .lead) u) liver
   unfolding compartmentExit
   faeces-is = h .faeces ∙ ap (λ (n : ℕ). r .faeces * n / unit) (h .new2)
 
-  skin-is : z ≡ compartmentExit r (s .lead) (solvedPlasma r (s .lead) u) other
+  skin-is : h .z ≡ compartmentExit r (s .lead) (solvedPlasma r (s .lead) u) other
   unfolding compartmentExit
   skin-is = h .skin ∙ ap (λ (n : ℕ). r .skin * n / unit) (h .new4)
 
-  pub enough : m1 + m2 + m3 + m4 + m5 + m6 + (x + y + z) ≤ t
+  -- no subtraction of point 4 is cut off
+  pub parts-within-total : amountSum h + (h .x + h .y + h .z) ≤ h .t
   unfolding sumTo exits
-  enough = omega (arith, never-cut-off r (s .lead) u, urine-is, faeces-is, skin-is)
+  parts-within-total = omega (arith, never-cut-off r (s .lead) u, urine-is, faeces-is, skin-is)
 
-  plasma-is : t - (m1 + m2 + m3 + m4 + m5 + m6) - (x + y + z) ≡ newPlasma r (s .lead) u
+  plasma-is : h .t - amountSum h - (h .x + h .y + h .z) ≡ newPlasma r (s .lead) u
   unfolding sumTo newPlasma exits
   plasma-is = omega (arith, urine-is, faeces-is, skin-is)
 
-  pub assembled : _≡_ {A = State}
+  pub parts-make-next : _≡_ {A = State}
       (record {
         month = s .month;
-        lead = (t - (m1 + m2 + m3 + m4 + m5 + m6) - (x + y + z)) ∷ m1 ∷ m2 ∷ m3 ∷ m4 ∷ m5 ∷ m6 ∷ [];
-        ledgers = (urineLedger s + x) ∷ (faecesLedger s + y) ∷ (skinLedger s + z) ∷ [];
+        lead = (h .t - amountSum h - (h .x + h .y + h .z)) ∷ h .m1 ∷ h .m2 ∷ h .m3 ∷ h .m4 ∷ h .m5 ∷ h .m6 ∷ [];
+        ledgers = (urineLedger s + h .x) ∷ (faecesLedger s + h .y) ∷ (skinLedger s + h .z) ∷ [];
       })
       (next r s u)
   unfolding next nextLead exits
-  assembled = λ i.
+  parts-make-next = λ i.
       record {
         month = s .month;
         lead = plasma-is i ∷ h .new1 i ∷ h .new2 i ∷ h .new3 i ∷ h .new4 i ∷ h .new5 i ∷ h .new6 i ∷ [];

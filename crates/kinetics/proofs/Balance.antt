@@ -72,7 +72,7 @@ module _ (r : Rates) (lead : List ℕ) (p : ℕ) where
   urine-divides = div-add-mod' (r .urine * p) unit
 
 -- N without its divisions
-pub numerator-sum : (r : Rates) (p : ℕ) (m : ℕ → ℕ) (u : ℕ)
+numerator-sum : (r : Rates) (p : ℕ) (m : ℕ → ℕ) (u : ℕ)
     → numerator r p m u ≡ unit * (product r * (p + u) + weighted 6 (compartmentDivisor r) (λ i. back r i * m i))
 unfolding numerator
 numerator-sum r p m u = ap (λ (x : ℕ). unit * (product r * (p + u) + x)) (productOver-sum r (λ i. back r i * m i))

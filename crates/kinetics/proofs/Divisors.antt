@@ -44,7 +44,7 @@ module _ (r : Rates) where
   product-pos = prod-pos 6 (compartmentDivisor r) (λ i l. compartmentDivisor-pos i)
 
   -- each F/Ei is whole
-  pub productOver-whole : (i : ℕ) → i < 6 → compartmentDivisor r i * productOver r i ≡ product r
+  productOver-whole : (i : ℕ) → i < 6 → compartmentDivisor r i * productOver r i ≡ product r
   unfolding product productOver
   productOver-whole i l = part-whole 6 (compartmentDivisor r) i l
 
