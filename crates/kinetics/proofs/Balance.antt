@@ -24,7 +24,7 @@ unfoldable pub urineRemainder : Rates → ℕ → ℕ
 urineRemainder r p = r .urine * p % unit
 
 -- the sum of bi × Mi × F/Ei, and of (Ei - bi) × remainder i × F/Ei
-unfoldable pub netReturn : Rates → List ℕ → ℕ
+unfoldable netReturn : Rates → List ℕ → ℕ
 netReturn r lead = weighted 6 (compartmentDivisor r) (λ i. back r i * amount lead i)
 
 unfoldable pub netRemainder : Rates → List ℕ → ℕ → ℕ

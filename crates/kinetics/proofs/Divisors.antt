@@ -94,7 +94,7 @@ module _ (r : Rates) where
       )
 
   -- Q without its subtraction
-  pub denominator-eq : denominator r ≡ product r * (unit + r .urine) + netOut r
+  denominator-eq : denominator r ≡ product r * (unit + r .urine) + netOut r
   unfolding denominator
   denominator-eq = omega (arith, out-sum)
 
