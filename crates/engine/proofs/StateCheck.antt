@@ -26,6 +26,10 @@ pub cap-next : (f : ℕ → ℕ) (i : ℕ) {sum next total : ℕ} → sum ≡ mi
     → total ≡ min (sumTo (i + 1) f) cap
 cap-next f i {sum} {next} {total} es en et = min-add (sumTo i f) (f i) sum next total es en et ∙ ap (λ (n : ℕ). min n cap) (sym (sum-next i f))
 
+-- all amounts are passed
+pub cap-whole : (f : ℕ → ℕ) {i n sum : ℕ} → i ≤ n → n ≤ i → sum ≡ min (sumTo i f) cap → sum ≡ min (sumTo n f) cap
+cap-whole f {i} {n} h k e = let all : i ≡ n = omega arith in e ∙ ap (λ (m : ℕ). min (sumTo m f) cap) all
+
 -- x is the capped sum of a list of n numbers, which is t
 capped-list : (l : List ℕ) {n t x : ℕ} → length l ≡ n → sumTo n (λ i. getD l i 0) ≡ t → x ≡ min (sumTo (length l) (λ i. getD l i 0)) cap → x ≡ min t cap
 capped-list l en et ex = ex ∙ ap (λ (n : ℕ). min (sumTo n (λ i. getD l i 0)) cap) en ∙ ap (λ (n : ℕ). min n cap) et

@@ -1,4 +1,4 @@
--- The state after a step, put together from what the calls give.
+-- What the calls give, put together: the divisors of a month's rates, and the state after a step.
 -- Assumes nothing.
 use mathlib.Core.Path.{_≡_, ap, _∙_}
 use mathlib.Core.List.{[], _∷_}
@@ -8,11 +8,39 @@ use Rattle.numbers.specs.Sums.{sumTo}
 use Rattle.book.specs.declared.Rates.{Rates}
 use Rattle.book.specs.Row.{unit}
 use Rattle.kinetics.specs.declared.State.{State}
-use Rattle.kinetics.specs.Step.{burden, liver, other, solvedPlasma, newAmount, urineExit, compartmentExit, exits, newPlasma, nextLead, urineLedger, faecesLedger, skinLedger, next}
+use Rattle.kinetics.specs.Ready.{Prepares}
+use Rattle.kinetics.specs.Step.{burden, liver, other, compartmentDivisor, retained, divisor, solvedPlasma, newAmount, urineExit, compartmentExit, exits, newPlasma, nextLead, urineLedger, faecesLedger, skinLedger, next}
+use Rattle.kinetics.proofs.Compartments.{at-six}
 use Rattle.kinetics.proofs.Balance.{never-cut-off}
 
--- t all the lead there is, p, the new amounts m1 to m6, and the exits x, y and z
-pub record Parts (r : Rates) (s : State) (u t p m1 m2 m3 m4 m5 m6 x y z : ℕ) : Type 0 where
+-- the divisors e1 to e6, and what is retained, k1 to k6
+pub prepares-is : (r : Rates) {e1 e2 e3 e4 e5 e6 k1 k2 k3 k4 k5 k6 : ℕ}
+    → e1 ≡ compartmentDivisor r 0 → e2 ≡ compartmentDivisor r 1 → e3 ≡ compartmentDivisor r 2
+    → e4 ≡ compartmentDivisor r 3 → e5 ≡ compartmentDivisor r 4 → e6 ≡ compartmentDivisor r 5
+    → k1 ≡ retained r 0 → k2 ≡ retained r 1 → k3 ≡ retained r 2 → k4 ≡ retained r 3 → k5 ≡ retained r 4 → k6 ≡ retained r 5
+    → Prepares r
+    (record {
+      divisors = e1 ∷ e2 ∷ e3 ∷ e4 ∷ e5 ∷ e6 ∷ [];
+      fixed = unit + r .urine + k2 + k3 + k4 + k5 + k6;
+      divisor = unit + r .urine + k2 + k3 + k4 + k5 + k6 + k1;
+    })
+unfolding divisor sumTo
+prepares-is r d1 d2 d3 d4 d5 d6 h1 h2 h3 h4 h5 h6 =
+    record { divisors = at-six _ d1 d2 d3 d4 d5 d6; fixed = omega arith; whole = omega arith }
+
+-- what the calls of a step give: t all the lead there is, p, the new amounts m1 to m6, and the exits x, y and z
+pub record Parts (r : Rates) (s : State) (u : ℕ) : Type 0 where
+  pub t : ℕ
+  pub p : ℕ
+  pub m1 : ℕ
+  pub m2 : ℕ
+  pub m3 : ℕ
+  pub m4 : ℕ
+  pub m5 : ℕ
+  pub m6 : ℕ
+  pub x : ℕ
+  pub y : ℕ
+  pub z : ℕ
   pub total : t ≡ burden (s .lead) + u
   pub solved : p ≡ solvedPlasma r (s .lead) u
   pub new1 : m1 ≡ newAmount r (s .lead) (solvedPlasma r (s .lead) u) 0
@@ -25,36 +53,40 @@ pub record Parts (r : Rates) (s : State) (u t p m1 m2 m3 m4 m5 m6 x y z : ℕ) :
   pub faeces : y ≡ r .faeces * m2 / unit
   pub skin : z ≡ r .skin * m4 / unit
 
-module _ {r : Rates} {s : State} {u t p m1 m2 m3 m4 m5 m6 x y z : ℕ} (h : Parts r s u t p m1 m2 m3 m4 m5 m6 x y z) where
-  urine-is : x ≡ urineExit r (solvedPlasma r (s .lead) u)
+abbrev amountSum : {r : Rates} {s : State} {u : ℕ} → Parts r s u → ℕ
+amountSum h = h .m1 + h .m2 + h .m3 + h .m4 + h .m5 + h .m6
+
+module _ {r : Rates} {s : State} {u : ℕ} (h : Parts r s u) where
+  urine-is : h .x ≡ urineExit r (solvedPlasma r (s .lead) u)
   unfolding urineExit
   urine-is = h .urine ∙ ap (λ (n : ℕ). r .urine * n / unit) (h .solved)
 
-  faeces-is : y ≡ compartmentExit r (s .lead) (solvedPlasma r (s .lead) u) liver
+  faeces-is : h .y ≡ compartmentExit r (s .lead) (solvedPlasma r (s .lead) u) liver
   unfolding compartmentExit
   faeces-is = h .faeces ∙ ap (λ (n : ℕ). r .faeces * n / unit) (h .new2)
 
-  skin-is : z ≡ compartmentExit r (s .lead) (solvedPlasma r (s .lead) u) other
+  skin-is : h .z ≡ compartmentExit r (s .lead) (solvedPlasma r (s .lead) u) other
   unfolding compartmentExit
   skin-is = h .skin ∙ ap (λ (n : ℕ). r .skin * n / unit) (h .new4)
 
-  pub enough : m1 + m2 + m3 + m4 + m5 + m6 + (x + y + z) ≤ t
+  -- no subtraction of point 4 is cut off
+  pub parts-within-total : amountSum h + (h .x + h .y + h .z) ≤ h .t
   unfolding sumTo exits
-  enough = omega (arith, never-cut-off r (s .lead) u, urine-is, faeces-is, skin-is)
+  parts-within-total = omega (arith, never-cut-off r (s .lead) u, urine-is, faeces-is, skin-is)
 
-  plasma-is : t - (m1 + m2 + m3 + m4 + m5 + m6) - (x + y + z) ≡ newPlasma r (s .lead) u
+  plasma-is : h .t - amountSum h - (h .x + h .y + h .z) ≡ newPlasma r (s .lead) u
   unfolding sumTo newPlasma exits
   plasma-is = omega (arith, urine-is, faeces-is, skin-is)
 
-  pub assembled : _≡_ {A = State}
+  pub parts-make-next : _≡_ {A = State}
       (record {
         month = s .month;
-        lead = (t - (m1 + m2 + m3 + m4 + m5 + m6) - (x + y + z)) ∷ m1 ∷ m2 ∷ m3 ∷ m4 ∷ m5 ∷ m6 ∷ [];
-        ledgers = (urineLedger s + x) ∷ (faecesLedger s + y) ∷ (skinLedger s + z) ∷ [];
+        lead = (h .t - amountSum h - (h .x + h .y + h .z)) ∷ h .m1 ∷ h .m2 ∷ h .m3 ∷ h .m4 ∷ h .m5 ∷ h .m6 ∷ [];
+        ledgers = (urineLedger s + h .x) ∷ (faecesLedger s + h .y) ∷ (skinLedger s + h .z) ∷ [];
       })
       (next r s u)
   unfolding next nextLead exits
-  assembled = λ i.
+  parts-make-next = λ i.
       record {
         month = s .month;
         lead = plasma-is i ∷ h .new1 i ∷ h .new2 i ∷ h .new3 i ∷ h .new4 i ∷ h .new5 i ∷ h .new6 i ∷ [];

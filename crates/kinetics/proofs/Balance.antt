@@ -3,7 +3,7 @@
 use mathlib.Core.Path.{_≡_, ap}
 use mathlib.Core.List.{List}
 use Prim.Native.Nat.{ℕ, _+_, _*_, _%_, _≤_, _<_}
-use native.Mathlib.Nat.{mul-le-mul-left, mul-pos, mul-lt-mul-of-pos-left, div-add-mod', div-mul-le-self, lt-div-mul-add, le-of-mul-le-mul-left, zero-mul, zero-div}
+use native.Mathlib.Nat.{mul-le-mul-left, mul-lt-mul-of-pos-left, div-add-mod', div-mul-le-self, lt-div-mul-add, le-of-mul-le-mul-left, zero-mul, zero-div}
 use native.Mathlib.Omega.{arith}
 use Rattle.numbers.specs.Sums.{sumTo}
 use Rattle.numbers.proofs.Sums.{weighted, sum-add, sum-scale, weighted-add, weighted-scale, weigh-eq, weigh-below, weigh-under}
@@ -11,7 +11,7 @@ use Rattle.book.specs.declared.Rates.{Rates}
 use Rattle.book.specs.Row.{unit, out, back, exit}
 use Rattle.kinetics.specs.Step.{plasma, amount, burden, compartmentDivisor, returned, inflow, divisor, solvedPlasma, newAmount, urineExit, compartmentExit, exits, exitSum, newPlasma, nextLead}
 use Rattle.kinetics.specs.Solution.{product, denominator, numerator}
-use Rattle.kinetics.proofs.Divisors.{lessBack, netOut, compartmentDivisor-pos, divisor-pos, product-pos, productOver-sum, denominator-eq, divisor-ge, divisor-le}
+use Rattle.kinetics.proofs.Divisors.{lessBack, netOut, compartmentDivisor-pos, divisor-pos, product-pos, productOver-sum, denominator-rest, scale-pos, divisor-ge, divisor-le}
 
 -- what the divisions of points 2 and 3 leave
 unfoldable pub amountRemainder : Rates → List ℕ → ℕ → ℕ → ℕ
@@ -24,11 +24,15 @@ unfoldable pub urineRemainder : Rates → ℕ → ℕ
 urineRemainder r p = r .urine * p % unit
 
 -- the sum of bi × Mi × F/Ei, and of (Ei - bi) × remainder i × F/Ei
-unfoldable pub netReturn : Rates → List ℕ → ℕ
+unfoldable netReturn : Rates → List ℕ → ℕ
 netReturn r lead = weighted 6 (compartmentDivisor r) (λ i. back r i * amount lead i)
 
 unfoldable pub netRemainder : Rates → List ℕ → ℕ → ℕ
 netRemainder r lead p = weighted 6 (compartmentDivisor r) (λ i. lessBack r i * amountRemainder r lead p i)
+
+-- all the remainders of a step, scaled
+unfoldable pub remainders : Rates → List ℕ → ℕ → ℕ
+remainders r lead p = netRemainder r lead p + product r * (sumTo 6 (exitRemainder r lead p) + urineRemainder r p)
 
 -- one compartment, from points 2 and 3: q and k their quotients, g and h their remainders
 compartment-balance : (D a b c m p q g k h : ℕ) → q * (D + b + c) + g ≡ m * D + a * p → k * D + h ≡ c * q
@@ -46,7 +50,7 @@ module _ (r : Rates) (lead : List ℕ) (p : ℕ) where
       compartment-balance unit (out r i) (back r i) (exit r i) (amount lead i) p _ _ _ _ (div-add-mod' _ _) (div-add-mod' _ _)
 
   -- the six together
-  pub six-balance : product r * (unit * (sumTo 6 (newAmount r lead p) + sumTo 6 (compartmentExit r lead p)) + sumTo 6 (exitRemainder r lead p))
+  six-balance : product r * (unit * (sumTo 6 (newAmount r lead p) + sumTo 6 (compartmentExit r lead p)) + sumTo 6 (exitRemainder r lead p))
       + (unit * netReturn r lead + netRemainder r lead p)
       ≡ product r * (unit * sumTo 6 (amount lead)) + p * netOut r
   unfolding product netReturn netRemainder netOut
@@ -67,24 +71,22 @@ module _ (r : Rates) (lead : List ℕ) (p : ℕ) where
   unfolding sumTo compartmentExit
   exit-sum = simp (zero-mul, zero-div) (omega arith)
 
-  pub urine-divides : urineExit r p * unit + urineRemainder r p ≡ r .urine * p
+  urine-divides : urineExit r p * unit + urineRemainder r p ≡ r .urine * p
   unfolding urineExit urineRemainder
   urine-divides = div-add-mod' (r .urine * p) unit
 
 -- N without its divisions
-pub numerator-sum : (r : Rates) (p : ℕ) (m : ℕ → ℕ) (u : ℕ)
+numerator-sum : (r : Rates) (p : ℕ) (m : ℕ → ℕ) (u : ℕ)
     → numerator r p m u ≡ unit * (product r * (p + u) + weighted 6 (compartmentDivisor r) (λ i. back r i * m i))
 unfolding numerator
 numerator-sum r p m u = ap (λ (x : ℕ). unit * (product r * (p + u) + x)) (productOver-sum r (λ i. back r i * m i))
 
--- F × D × (new amounts + exits) is at most F × D × (what there was): F the product, w the urine's rate, A and X the new amounts
--- and their exits, Y the urine, B the old amounts, I plasma and uptake
-spent-scaled : (F D w T G N Q p A X O R Y h I B : ℕ)
+-- on plain numbers: A and X the new amounts and their exits, Y the urine, I plasma and uptake, B the old amounts, and O, R, h what divisions leave
+balance-scaled : (F D w T G N p A X O R Y h I B : ℕ)
     → F * (D * (A + X) + O) + (D * G + R) ≡ F * (D * B) + p * T
-    → Y * D + h ≡ w * p → Q ≡ F * (D + w) + T → N ≡ D * (F * I + G) → p * Q ≤ N
-    → (F * D) * (A + X + Y) ≤ (F * D) * (I + B)
-spent-scaled F D w T G N Q p A X O R Y h I B bal urine eQ eN low =
-    omega (arith, ap (λ (x : ℕ). F * x) urine, ap (λ (x : ℕ). p * x) eQ)
+    → Y * D + h ≡ w * p → N ≡ D * (F * I + G)
+    → (F * D) * (A + X + Y) + (R + F * (O + h)) + N ≡ (F * D) * (I + B) + p * (F * w + T)
+balance-scaled F D w T G N p A X O R Y h I B bal urine eN = omega (arith, ap (λ (x : ℕ). F * x) urine)
 
 module _ (r : Rates) (lead : List ℕ) (u : ℕ) where
   returned-le : product r * sumTo 6 (returned r lead) ≤ netReturn r lead
@@ -99,7 +101,7 @@ module _ (r : Rates) (lead : List ℕ) (u : ℕ) where
       weigh-under 6 (compartmentDivisor r) (returned r lead) _
       (λ i l. omega (arith, lt-div-mul-add {a = back r i * amount lead i} (compartmentDivisor-pos r i)))
 
-  pub numerator-eq : numerator r (plasma lead) (amount lead) u ≡ unit * (product r * (plasma lead + u) + netReturn r lead)
+  numerator-eq : numerator r (plasma lead) (amount lead) u ≡ unit * (product r * (plasma lead + u) + netReturn r lead)
   unfolding netReturn
   numerator-eq = numerator-sum r (plasma lead) (amount lead) u
 
@@ -135,19 +137,23 @@ module _ (r : Rates) (lead : List ℕ) (u : ℕ) where
         mul-lt-mul-of-pos-left (lt-div-mul-add {a = inflow r lead u * unit} (divisor-pos r)) (product-pos r),
       )
 
-  pub scale-pos : 0 < product r * unit
-  scale-pos = mul-pos (product-pos r) (omega arith)
+  -- the step's balance, scaled by F × D
+  pub step-balance : product r * unit * (sumTo 6 (newAmount r lead (solvedPlasma r lead u)) + sumTo 6 (compartmentExit r lead (solvedPlasma r lead u)) + urineExit r (solvedPlasma r lead u))
+      + remainders r lead (solvedPlasma r lead u)
+      + numerator r (plasma lead) (amount lead) u
+      ≡ product r * unit * (plasma lead + u + sumTo 6 (amount lead)) + solvedPlasma r lead u * (product r * r .urine + netOut r)
+  unfolding remainders
+  step-balance =
+      let p = solvedPlasma r lead u in
+      balance-scaled _ _ _ _ _ _ _ _ _ _ _ _ _ (plasma lead + u) _ (six-balance r lead p) (urine-divides r lead p) numerator-eq
 
-  -- the new amounts and the exits are there to be taken
+  -- the new amounts and the exits are no more than there is
   pub never-cut-off : sumTo 6 (newAmount r lead (solvedPlasma r lead u)) + exitSum (exits r lead u) ≤ plasma lead + u + sumTo 6 (amount lead)
   unfolding exits
   never-cut-off =
       let p = solvedPlasma r lead u in
-      let spent =
-      le-of-mul-le-mul-left
-      (spent-scaled _ _ _ _ _ _ _ _ _ _ _ _ _ _ (plasma lead + u) _ (six-balance r lead p) (urine-divides r lead p)
-      (denominator-eq r) numerator-eq solvedPlasma-le)
-      scale-pos in
+      let spent : sumTo 6 (newAmount r lead p) + sumTo 6 (compartmentExit r lead p) + urineExit r p ≤ plasma lead + u + sumTo 6 (amount lead) =
+      le-of-mul-le-mul-left (omega (arith, step-balance, solvedPlasma-le, ap (λ (x : ℕ). p * x) (denominator-rest r))) (scale-pos r) in
       omega (arith, spent, exit-sum r lead p)
 
   pub conservation : burden (nextLead r lead u) + exitSum (exits r lead u) ≡ burden lead + u

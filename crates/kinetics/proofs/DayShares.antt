@@ -9,7 +9,7 @@ use Rattle.numbers.specs.Sums.{sumTo}
 use Rattle.kinetics.specs.Share.{shareOf}
 use Rattle.kinetics.specs.Laws.{ShareLaws}
 
-pub div-mono : {a b : ℕ} (s : ℕ) → 0 < s → a ≤ b → a / s ≤ b / s
+div-mono : {a b : ℕ} (s : ℕ) → 0 < s → a ≤ b → a / s ≤ b / s
 div-mono {a} s pos h = le-div-iff-mul-le pos .1 (le-trans (div-mul-le-self a s) h)
 
 module _ (s T : ℕ) (pos : 0 < s) where

@@ -2,7 +2,7 @@
 -- Assumes nothing.
 use mathlib.Core.Path.{_≡_, ap, _∙_}
 use Prim.Native.Nat.{ℕ, _+_, _*_, _/_, _≤_, _<_}
-use native.Mathlib.Nat.{le-trans, mul-le-mul-left, div-mul-le-self, lt-div-mul-add, le-of-mul-le-mul-right, add-sub-of-le, mul-comm}
+use native.Mathlib.Nat.{le-trans, mul-pos, mul-le-mul-left, div-mul-le-self, lt-div-mul-add, le-of-mul-le-mul-right, add-sub-of-le, mul-comm}
 use native.Mathlib.Omega.{arith}
 use Rattle.numbers.specs.Sums.{sumTo}
 use Rattle.numbers.proofs.Sums.{weighted, prod-pos, weighted-add, weighted-is, part-whole, weigh-above, weigh-own, weigh-over}
@@ -43,8 +43,12 @@ module _ (r : Rates) where
   unfolding product
   product-pos = prod-pos 6 (compartmentDivisor r) (λ i l. compartmentDivisor-pos i)
 
+  -- F × D
+  pub scale-pos : 0 < product r * unit
+  scale-pos = mul-pos product-pos (omega arith)
+
   -- each F/Ei is whole
-  pub productOver-whole : (i : ℕ) → i < 6 → compartmentDivisor r i * productOver r i ≡ product r
+  productOver-whole : (i : ℕ) → i < 6 → compartmentDivisor r i * productOver r i ≡ product r
   unfolding product productOver
   productOver-whole i l = part-whole 6 (compartmentDivisor r) i l
 
@@ -90,7 +94,7 @@ module _ (r : Rates) where
       )
 
   -- Q without its subtraction
-  pub denominator-eq : denominator r ≡ product r * (unit + r .urine) + netOut r
+  denominator-eq : denominator r ≡ product r * (unit + r .urine) + netOut r
   unfolding denominator
   denominator-eq = omega (arith, out-sum)
 

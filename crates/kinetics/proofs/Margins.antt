@@ -12,12 +12,8 @@ use Rattle.book.specs.Row.{unit, out}
 use Rattle.book.specs.Limits.{RateLimits}
 use Rattle.kinetics.specs.Step.{plasma, amount, compartmentDivisor, solvedPlasma, newAmount, newPlasma}
 use Rattle.kinetics.specs.Solution.{product, denominator, numerator}
-use Rattle.kinetics.proofs.Divisors.{lessBack, netOut, compartmentDivisor-pos, denominator-rest, denominator-rest-le}
-use Rattle.kinetics.proofs.Balance.{amountRemainder, exitRemainder, urineRemainder, netRemainder, six-balance, urine-divides, numerator-eq, solvedPlasma-le, solvedPlasma-ge, scale-pos, newPlasma-eq}
-
--- all the remainders of a step, scaled
-unfoldable remainders : Rates → List ℕ → ℕ → ℕ
-remainders r lead p = netRemainder r lead p + product r * (sumTo 6 (exitRemainder r lead p) + urineRemainder r p)
+use Rattle.kinetics.proofs.Divisors.{lessBack, netOut, compartmentDivisor-pos, denominator-rest, denominator-rest-le, scale-pos}
+use Rattle.kinetics.proofs.Balance.{amountRemainder, exitRemainder, urineRemainder, netRemainder, remainders, solvedPlasma-le, solvedPlasma-ge, step-balance, newPlasma-eq}
 
 module _ (r : Rates) (lead : List ℕ) (p : ℕ) where
   exitRemainder-sum : sumTo 6 (exitRemainder r lead p) ≤ 2 * unit
@@ -52,39 +48,27 @@ module _ (r : Rates) (lead : List ℕ) (p : ℕ) where
         mul-le-mul-left (product r) urineRemainder-le,
       )
 
--- the key identity, on plain numbers as in `spent-scaled`; x is new P
-key-identity : (F D w T G N p A X O R Y h I B x : ℕ)
-    → F * (D * (A + X) + O) + (D * G + R) ≡ F * (D * B) + p * T
-    → Y * D + h ≡ w * p → N ≡ D * (F * I + G) → x + A + X + Y ≡ I + B
-    → (F * D) * x + p * (F * w + T) ≡ N + (R + F * (O + h))
-key-identity F D w T G N p A X O R Y h I B x bal urine eN cons =
-    omega (arith, ap (λ (y : ℕ). F * y) urine, ap (λ (y : ℕ). (F * D) * y) cons)
-
 -- K is F × D, S is Q - K, and X is N - p × Q
-lower : (K S Q N R p x : ℕ) → Q ≡ K + S → K * x + p * S ≡ N + R → p * Q ≤ N → 0 < K → N ≤ x * Q
-lower K S Q N R p x eQ id low pos =
+least-scaled : (K S Q N R p x : ℕ) → Q ≡ K + S → K * x + p * S ≡ N + R → p * Q ≤ N → 0 < K → N ≤ x * Q
+least-scaled K S Q N R p x eQ id low pos =
     le-of-mul-le-mul-left
     (omega (arith, ap (λ (y : ℕ). y * Q) id, ap (λ (y : ℕ). N * y) eQ, mul-le-mul-right S low))
     pos
 
-upper : (K S Q N R p x X : ℕ) → Q ≡ K + S → K * x + p * S ≡ N + R → N ≡ p * Q + X → R ≤ 10 * K → S ≤ 64 * K → 0 < K
+most-scaled : (K S Q N R p x X : ℕ) → Q ≡ K + S → K * x + p * S ≡ N + R → N ≡ p * Q + X → R ≤ 10 * K → S ≤ 64 * K → 0 < K
     → x * Q ≤ N + 10 * Q + 64 * X
-upper K S Q N R p x X eQ id eN hR hS pos =
+most-scaled K S Q N R p x X eQ id eN hR hS pos =
     le-of-mul-le-mul-left
     (omega (arith, ap (λ (y : ℕ). y * Q) id, ap (λ (y : ℕ). N * y) eQ, ap (λ (y : ℕ). y * S) eN, mul-le-mul-right Q hR, mul-le-mul-left X hS))
     pos
 
 module _ (r : Rates) (lead : List ℕ) (u : ℕ) where
-  identity : product r * unit * newPlasma r lead u + solvedPlasma r lead u * (product r * r .urine + netOut r)
+  remainders-identity : product r * unit * newPlasma r lead u + solvedPlasma r lead u * (product r * r .urine + netOut r)
       ≡ numerator r (plasma lead) (amount lead) u + remainders r lead (solvedPlasma r lead u)
-  unfolding remainders
-  identity =
-      let p = solvedPlasma r lead u in
-      key-identity _ _ _ _ _ _ _ _ _ _ _ _ _ (plasma lead + u) _ _ (six-balance r lead p) (urine-divides r lead p)
-      (numerator-eq r lead u) (newPlasma-eq r lead u)
+  remainders-identity = omega (arith, step-balance r lead u, ap (λ (x : ℕ). product r * unit * x) (newPlasma-eq r lead u))
 
   pub margin-least : numerator r (plasma lead) (amount lead) u ≤ newPlasma r lead u * denominator r
-  margin-least = lower _ _ _ _ _ _ _ (denominator-rest r) identity (solvedPlasma-le r lead u) (scale-pos r lead u)
+  margin-least = least-scaled _ _ _ _ _ _ _ (denominator-rest r) remainders-identity (solvedPlasma-le r lead u) (scale-pos r)
 
   pub margin-most : RateLimits r
       → unit * (newPlasma r lead u * denominator r - numerator r (plasma lead) (amount lead) u)
@@ -93,6 +77,6 @@ module _ (r : Rates) (lead : List ℕ) (u : ℕ) where
       let p = solvedPlasma r lead u in
       let short = numerator r (plasma lead) (amount lead) u - p * denominator r in
       let over-by =
-      upper _ _ _ _ _ _ _ short (denominator-rest r) identity (sym (add-sub-of-le (solvedPlasma-le r lead u)))
-      (remainders-le r lead p lim) (denominator-rest-le r lim) (scale-pos r lead u) in
+      most-scaled _ _ _ _ _ _ _ short (denominator-rest r) remainders-identity (sym (add-sub-of-le (solvedPlasma-le r lead u)))
+      (remainders-le r lead p lim) (denominator-rest-le r lim) (scale-pos r) in
       omega (arith, over-by, solvedPlasma-le r lead u, solvedPlasma-ge r lead u, denominator-rest r, mul-le-mul-left p (le-of-eq (sym (denominator-rest r))))

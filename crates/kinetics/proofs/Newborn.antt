@@ -85,7 +85,7 @@ birth-law row mother lim h =
     }
 
 -- the state at birth from PB, n, and the five organs
-pub born : (row : Row) (mother : ℕ) {n l k o t c : ℕ} → n ≡ birthBlood mother
+pub birth-state-is : (row : Row) (mother : ℕ) {n l k o t c : ℕ} → n ≡ birthBlood mother
     → l ≡ birthOrgan 130 n (row .liver)
     → k ≡ birthOrgan 106 n (row .kidney)
     → o ≡ birthOrgan 160 n (row .other)
@@ -102,4 +102,4 @@ pub born : (row : Row) (mother : ℕ) {n l k o t c : ℕ} → n ≡ birthBlood m
     })
     (birthState row mother)
 unfolding birthState birthLead birthPlasma birthRedCells birthTotal
-born row mother blood liver kidney other trabecular cortical = cc
+birth-state-is row mother blood liver kidney other trabecular cortical = cc

@@ -1,14 +1,14 @@
 -- `engine::check::capped_sum` meets its contract: the capped sum so far is that of the amounts passed.
 -- Assumes nothing.
 use Prim.Native.Nat.{ℕ, _-_, _≤_, min}
-use mathlib.Core.Path.{_≡_, refl, ap, _∙_}
+use mathlib.Core.Path.{_≡_, refl}
 use mathlib.Core.List.{List}
 use native.Mathlib.Omega.{arith}
 use lib.ListN.{length, getD}
 use borrow.Author.Needs.{needs}
 use denote.Ref.{now}
 use Rattle.numbers.specs.Sums.{sumTo}
-use Rattle.engine.proofs.StateCheck.{cap, cap-next}
+use Rattle.engine.proofs.StateCheck.{cap, cap-next, cap-whole}
 use Rattle.engine.proofs.check.capped_sum.Statement.{statement}
 use Rattle.engine.proofs.check.capped_sum.Tie as tie
 
@@ -54,9 +54,7 @@ loop-again c =
 returns : tie.Need-returns Inv-loop μ-loop
 returns c =
     let l = c .before in
-    let amounts = now (l .before .before .args .amounts) in
-    let e : l .loop .i ≡ length amounts = omega arith in
-    l .loop .inv .1 ∙ ap (λ (n : ℕ). min (sumTo n (amountAt amounts)) cap) e
+    cap-whole (amountAt (now (l .before .before .args .amounts))) (l .loop .inv .0) (c .loop-test .left) (l .loop .inv .1)
 
 pub capped-sum-spec : {M : Type 1} → statement M
 capped-sum-spec =

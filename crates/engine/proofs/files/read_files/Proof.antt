@@ -1,10 +1,7 @@
 -- `engine::files::read_files` meets its contract: refused by a length, by the site file, or read as the book says.
 -- Assumes nothing.
-use mathlib.Core.Path.{ap, _∙_}
 use borrow.Author.Needs.{needs}
 use denote.Ref.{now}
-use Rattle.site.specs.declared.SiteRead.{SiteRead}
-use Rattle.site.proofs.Accepted.{read-refusal}
 use Rattle.engine.specs.Files.{filesOf}
 use Rattle.engine.proofs.Answers.{files-refused-by-length, files-refused-by-site, files-refused-or-read}
 use Rattle.engine.proofs.files.read_files.Statement.{statement}
@@ -19,16 +16,16 @@ length-refusal-requires c κs = search needs
 returns : tie.Need-returns
 returns c =
     let lengths = c .before in
-    let a = lengths .before .before .before .before .before .args in
-    files-refused-by-length (filesOf (now (a .site)) (now (a .book))) _ _ (lengths .length-refusal .ensures) (c .if1 .taken)
+    let read = lengths .before .before in
+    let a = read .before .before .before .args in
+    files-refused-by-length (filesOf (now (a .site)) (now (a .book))) _ (lengths .length-refusal .ensures) (read .read-site .ensures) (c .if1 .taken)
 
 returns-2 : tie.Need-returns-2
 returns-2 c =
     let lengths = c .before .before in
     let read = lengths .before .before in
     let a = read .before .before .before .args in
-    files-refused-by-site (filesOf (now (a .site)) (now (a .book))) _ _ (lengths .length-refusal .ensures) (c .before .if1 .left)
-    (ap (λ (x : SiteRead). x .refusal) (read .read-site .ensures) ∙ read-refusal (now (a .site))) (c .if2 .taken)
+    files-refused-by-site (filesOf (now (a .site)) (now (a .book))) _ (lengths .length-refusal .ensures) (read .read-site .ensures) (c .before .if1 .left) (c .if2 .taken)
 
 read-book-requires : tie.Need-read-book-requires
 read-book-requires c κs = search needs
@@ -38,9 +35,8 @@ returns-3 c =
     let lengths = c .before .before .before .before in
     let read = lengths .before .before in
     let a = read .before .before .before .args in
-    files-refused-or-read (filesOf (now (a .site)) (now (a .book))) _ _ (lengths .length-refusal .ensures) (c .before .before .before .if1 .left)
-    (ap (λ (x : SiteRead). x .refusal) (read .read-site .ensures) ∙ read-refusal (now (a .site))) (c .before .before .if2 .left)
-    (ap (λ (x : SiteRead). x .scenario) (read .read-site .ensures)) (c .read-book .ensures .0) (c .read-book .ensures .1)
+    files-refused-or-read (filesOf (now (a .site)) (now (a .book))) _ (lengths .length-refusal .ensures) (read .read-site .ensures)
+    (c .before .before .before .if1 .left) (c .before .before .if2 .left) (c .read-book .ensures .0) (c .read-book .ensures .1)
 
 pub read-files-spec : {M : Type 1} → statement M
 read-files-spec =

@@ -1,7 +1,7 @@
--- `kinetics::birth::birth_state` meets its contract: the products fit, and `born` puts the state together.
+-- `kinetics::birth::birth_state` meets its contract: the products fit, and `birth-state-is` puts the state together.
 -- Assumes nothing.
 use native.Mathlib.Omega.{arith}
-use Rattle.kinetics.proofs.Newborn.{total-fits, plasma-fits, red-cell-rates-fit, plasma-le-total, born}
+use Rattle.kinetics.proofs.Newborn.{total-fits, plasma-fits, red-cell-rates-fit, plasma-le-total, birth-state-is}
 use borrow.Author.Needs.{needs}
 use Rattle.kinetics.proofs.birth.birth_state.Statement.{statement}
 use Rattle.kinetics.proofs.birth.birth_state.Tie as tie
@@ -53,7 +53,7 @@ returns : tie.Need-returns
 returns c =
     let blood = c .before .before .before .before .before .before in
     let start = blood .before .before .before .before in
-    born (start .args .row) (start .args .mother) (blood .birth-blood .ensures .value)
+    birth-state-is (start .args .row) (start .args .mother) (blood .birth-blood .ensures .value)
     (c .before .before .before .before .birth-organ .ensures) (c .before .before .before .birth-organ2 .ensures)
     (c .before .before .birth-organ3 .ensures) (c .before .birth-organ4 .ensures) (c .birth-organ5 .ensures)
 

@@ -1,9 +1,6 @@
--- `kinetics::prepare::prepare` meets its contract: the six Ei by cases on the index, d as the sum of its parts.
+-- `kinetics::prepare::prepare` meets its contract: `prepares-is` puts the divisors together.
 -- Assumes nothing.
-use native.Mathlib.Omega.{arith}
-use Rattle.numbers.specs.Sums.{sumTo}
-use Rattle.kinetics.specs.Step.{divisor}
-use Rattle.kinetics.proofs.Compartments.{at-six}
+use Rattle.kinetics.proofs.Assembly.{prepares-is}
 use borrow.Author.Needs.{needs}
 use Rattle.kinetics.proofs.prepare.prepare.Statement.{statement}
 use Rattle.kinetics.proofs.prepare.prepare.Tie as tie
@@ -66,19 +63,16 @@ add-t15 : tie.Need-add-t15
 add-t15 c = search needs
 
 returns : tie.Need-returns
-unfolding divisor sumTo
 returns c =
-    let e6 = c .before .before .before .before .before .before .before in
-    let e3 = e6 .before .before .before in
-    let red-cells = c .before .before .before .before .before .before .retained-at .ensures .value in
-    record {
-      divisors =
-          at-six _
-          (e3 .before .before .divisor-at .ensures) (e3 .before .divisor-at2 .ensures) (e3 .divisor-at3 .ensures)
-          (e6 .before .before .divisor-at4 .ensures) (e6 .before .divisor-at5 .ensures) (e6 .divisor-at6 .ensures);
-      fixed = omega (arith, red-cells);
-      whole = omega (arith, red-cells);
-    }
+    let k4 = c .before .before .before in
+    let k1 = k4 .before .before .before in
+    let e4 = k1 .before .before .before in
+    let e1 = e4 .before .before .before in
+    prepares-is (e1 .before .args .rates)
+    (e1 .divisor-at .ensures) (e4 .before .before .divisor-at2 .ensures) (e4 .before .divisor-at3 .ensures)
+    (e4 .divisor-at4 .ensures) (k1 .before .before .divisor-at5 .ensures) (k1 .before .divisor-at6 .ensures)
+    (k1 .retained-at .ensures .value) (k4 .before .before .retained-at2 .ensures .value) (k4 .before .retained-at3 .ensures .value)
+    (k4 .retained-at4 .ensures .value) (c .before .before .retained-at5 .ensures .value) (c .before .retained-at6 .ensures .value)
 
 pub prepare-spec : {M : Type 1} → statement M
 prepare-spec =

@@ -4,7 +4,7 @@ use mathlib.Core.Path.{ap}
 use Prim.Native.Nat.{ℕ, _+_}
 use native.Mathlib.Omega.{arith}
 use Rattle.kinetics.proofs.Bounds.{urine-fits, exit-fits}
-use Rattle.kinetics.proofs.Assembly.{Parts, enough, assembled}
+use Rattle.kinetics.proofs.Assembly.{Parts, parts-within-total, parts-make-next}
 use borrow.Author.Needs.{needs}
 use Rattle.kinetics.proofs.step.step.Statement.{statement}
 use Rattle.kinetics.proofs.step.step.Tie as tie
@@ -63,23 +63,7 @@ burden-of-requires : tie.Need-burden-of-requires
 burden-of-requires c κs = search needs
 
 -- what the calls before give
-parts : (c : tie.After-burden-of) →
-    let c1 = c .before in
-    let c2 = c1 .before in
-    let c3 = c2 .before in
-    let c4 = c3 .before in
-    let c5 = c4 .before in
-    let c6 = c5 .before in
-    let c7 = c6 .before in
-    let c8 = c7 .before in
-    let c9 = c8 .before in
-    let c10 = c9 .before in
-    let start = c10 .before in
-    Parts (start .args .rates) (start .args .state) (start .args .u) (c .burden-of .result + start .args .u)
-    (c10 .solved-plasma .result)
-    (c9 .new-amount .result) (c8 .new-amount2 .result) (c7 .new-amount3 .result)
-    (c6 .new-amount4 .result) (c5 .new-amount5 .result) (c4 .new-amount6 .result)
-    (c3 .exit-of .result) (c2 .exit-of2 .result) (c1 .exit-of3 .result)
+abbrev parts : (c : tie.After-burden-of) → (let a = c .before .before .before .before .before .before .before .before .before .before .before .args in Parts (a .rates) (a .state) (a .u))
 parts c =
     let c1 = c .before in
     let c2 = c1 .before in
@@ -92,6 +76,17 @@ parts c =
     let c9 = c8 .before in
     let c10 = c9 .before in
     record {
+      t = c .burden-of .result + c10 .before .args .u;
+      p = c10 .solved-plasma .result;
+      m1 = c9 .new-amount .result;
+      m2 = c8 .new-amount2 .result;
+      m3 = c7 .new-amount3 .result;
+      m4 = c6 .new-amount4 .result;
+      m5 = c5 .new-amount5 .result;
+      m6 = c4 .new-amount6 .result;
+      x = c3 .exit-of .result;
+      y = c2 .exit-of2 .result;
+      z = c1 .exit-of3 .result;
       total = ap (λ (n : ℕ). n + c10 .before .args .u) (c .burden-of .ensures);
       solved = c10 .solved-plasma .ensures;
       new1 = c9 .new-amount .ensures .value;
@@ -109,7 +104,7 @@ add-total : tie.Need-add-total
 add-total c = search needs
 
 sub-plasma : tie.Need-sub-plasma
-sub-plasma c = omega (arith, enough (parts c))
+sub-plasma c = omega (arith, parts-within-total (parts c))
 
 add-plasma : tie.Need-add-plasma
 add-plasma c = search needs
@@ -118,28 +113,28 @@ add-plasma-2 : tie.Need-add-plasma-2
 add-plasma-2 c = search needs
 
 sub-plasma-2 : tie.Need-sub-plasma-2
-sub-plasma-2 c = omega (arith, enough (parts c))
+sub-plasma-2 c = omega (arith, parts-within-total (parts c))
 
 array-read-urine-ledger : tie.Need-array-read-urine-ledger
 array-read-urine-ledger c = search needs
 
 add-urine-ledger : tie.Need-add-urine-ledger
-add-urine-ledger c = omega (arith, enough (parts (c .before)))
+add-urine-ledger c = omega (arith, parts-within-total (parts (c .before)))
 
 array-read-faeces-ledger : tie.Need-array-read-faeces-ledger
 array-read-faeces-ledger c = search needs
 
 add-faeces-ledger : tie.Need-add-faeces-ledger
-add-faeces-ledger c = omega (arith, enough (parts (c .before)))
+add-faeces-ledger c = omega (arith, parts-within-total (parts (c .before)))
 
 array-read-skin-ledger : tie.Need-array-read-skin-ledger
 array-read-skin-ledger c = search needs
 
 add-skin-ledger : tie.Need-add-skin-ledger
-add-skin-ledger c = omega (arith, enough (parts (c .before)))
+add-skin-ledger c = omega (arith, parts-within-total (parts (c .before)))
 
 returns : tie.Need-returns
-returns c = assembled (parts (c .before))
+returns c = parts-make-next (parts (c .before))
 
 pub step-spec : {M : Type 1} → statement M
 step-spec =
