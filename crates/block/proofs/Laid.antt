@@ -8,12 +8,11 @@ use native.Mathlib.Nat.{not-suc-le-zero, le-of-suc-le-suc, mod-eq-of-lt}
 use native.Mathlib.Omega.{arith}
 use borrow.Author.Tests.{eq-eqb}
 use lib.ListN.{length, getD, replicate, length-append, length-replicate}
-use lib.Seq.{ext-getD, getD-append-add}
-use Rattle.numbers.specs.Choice.{tab}
-use Rattle.numbers.proofs.Every.{every-of, length-tab, getD-tab}
+use lib.Seq.{getD-append-add}
+use Rattle.numbers.proofs.Every.{every-of, tab-is}
 use Rattle.block.specs.Block.{byteAt, Bytes, wordAt, fieldAt, numberAt, editionAt, checkAt, zerosFrom, fieldsOf}
 use Rattle.block.specs.Writer.{le16, le32, layout, bodyOf, BodyPasses}
-use Rattle.block.proofs.Laws.{isZero}
+use Rattle.block.proofs.Laws.{field, isZero}
 use Rattle.block.proofs.Writer.{length-le32}
 use Rattle.block.proofs.Sealed.{field-skip, field-le32}
 
@@ -110,7 +109,7 @@ module _ (number edition : ℕ) (fields : List ℕ) (few : length fields ≤ 126
   unfolding padding
   length-padding = length-replicate (504 - 4 * length fields) 0
 
-  pub length-body : length (bodyOf number edition fields) ≡ 508
+  length-body : length (bodyOf number edition fields) ≡ 508
   length-body = ap length by-used ∙ length-append before padding ∙ omega (arith, length-before, length-padding)
 
   bytes-body : Bytes (bodyOf number edition fields)
@@ -145,7 +144,7 @@ module _ (number edition : ℕ) (fields : List ℕ) (few : length fields ≤ 126
       }
 
   module _ (small : (k : ℕ) → getD fields k 0 < 4294967296) where
-    pub field-body : (k : ℕ) → k < length fields → fieldAt (bodyOf number edition fields) (4 + 4 * k) ≡ getD fields k 0
+    field-body : (k : ℕ) → k < length fields → field (bodyOf number edition fields) k ≡ getD fields k 0
     field-body k h =
         let at : 4 + 4 * k ≡ length (header number edition) + 4 * k = omega (arith, length-header number edition) in
         ap₂ fieldAt by-parts at
@@ -155,8 +154,4 @@ module _ (number edition : ℕ) (fields : List ℕ) (few : length fields ≤ 126
     pub fields-body : fieldsOf (length fields) (bodyOf number edition fields) ≡ fields
     unfolding fieldsOf
     fields-body =
-        let field : ℕ → ℕ = λ (k : ℕ). fieldAt (bodyOf number edition fields) (4 + 4 * k) in
-        ext-getD 0 (tab (length fields) field) fields (length-tab (length fields) field)
-        (λ k h.
-        let h' : k < length fields = omega (arith, length-tab (length fields) field) in
-        getD-tab (length fields) field k h' ∙ field-body k h')
+        tab-is (length fields) (field (bodyOf number edition fields)) fields refl field-body

@@ -41,7 +41,7 @@ module _ (fields : List ℕ) (fit : fieldsFit fields ≡ true) where
   shares-le = leb-true (single fields 10 + single fields 11) 100 (and-right (saturated fields) (sharesFit fields) rules)
 
   -- a field in a range of places whose limits are at most v, a test that is computed
-  range-le : (v from n : ℕ) → every (λ (place : ℕ). leb (at limits place) v) from n ≡ true → from + n ≤ 94
+  pub range-le : (v from n : ℕ) → every (λ (place : ℕ). leb (at limits place) v) from n ≡ true → from + n ≤ 94
       → (place : ℕ) → from ≤ place → place < from + n → at fields place ≤ v
   range-le v from n e room place a b =
       le-trans (field-le place (omega arith))

@@ -11,17 +11,29 @@ use Rattle.numbers.specs.Sums.{sumTo}
 use Rattle.numbers.proofs.Every.{and-true, and-left, and-right}
 use Rattle.numbers.proofs.Refusals.{unless-none}
 use Rattle.numbers.proofs.Sums.{sum-le}
+use Rattle.site.specs.declared.DustSource.{DustSource}
 use Rattle.site.specs.declared.Exposure.{Exposure}
+use Rattle.site.specs.declared.WaterSource.{WaterSource}
 use Rattle.site.specs.Fields.{at}
 use Rattle.site.specs.Limits.{ExposureLimits}
 use Rattle.uptake.specs.Age.{ageOf}
-use Rattle.uptake.specs.Intake.{airIntake, waterIntake, soilIntake, dustIntake, intakesOf, intakeOf, passes, refusalOf, intakeRefusal}
+use Rattle.uptake.specs.Intake.{airIntake, waterIntakeBy, waterIntake, dustConcentrationBy, dustConcentration, soilIntake, dustIntake, intakesOf, intakeOf, passes, refusalOf, intakeRefusal}
 use Rattle.uptake.specs.Uptake.{percentOf, saturationOf, absorbable, absorbableTotal, passiveUptake, activePart, activeUptake, mediumUptake, airUptake, dayUptake}
 use Rattle.uptake.specs.Laws.{Weights, AgeLaw, Passed, RefusalLaw, SaturationLaw, EatenLaw, AirLaw, DayLaw}
 
 pub age-law : AgeLaw
 unfolding ageOf
 age-law month h = omega arith
+
+-- ---- intakes by their source
+
+pub dust-by-source : (e : Exposure) {source : DustSource} → e .«dust_source» ≡ source → dustConcentrationBy source e ≡ dustConcentration e
+unfolding dustConcentration
+dust-by-source e told = rw told
+
+pub water-by-source : (e : Exposure) {source : WaterSource} → e .«water_source» ≡ source → waterIntakeBy source e ≡ waterIntake e
+unfolding waterIntake
+water-by-source e told = rw told
 
 -- ---- refusal 9
 

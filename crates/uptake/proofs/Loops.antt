@@ -4,11 +4,10 @@ use mathlib.Core.Path.{_≡_, refl, ap, ap₂, _∙_}
 use mathlib.Core.List.{List, [], _∷_}
 use Prim.Native.Nat.{ℕ, _+_, _-_, _*_, _≤_, _<_}
 use native.Mathlib.Omega.{arith}
-use lib.ListN.{length, take, set, length-set}
-use Rattle.numbers.specs.Choice.{tab}
-use Rattle.numbers.specs.Sums.{sumTo}
-use Rattle.numbers.proofs.Every.{getD-tab, tab-store, tab-whole}
-use Rattle.numbers.proofs.Sums.{sum-eq, sum-next}
+use lib.ListN.{set}
+use Rattle.numbers.proofs.Every.{getD-tab}
+use Rattle.numbers.proofs.Loops.{Filled, filled-none, filled-next, filled-all, Summed, summed-none, summed-next, summed-all}
+use Rattle.numbers.proofs.Sums.{sum-eq}
 use Rattle.site.specs.declared.Exposure.{Exposure}
 use Rattle.site.specs.Fields.{at}
 use Rattle.uptake.specs.declared.Absorbable.{Absorbable}
@@ -18,56 +17,19 @@ use Rattle.uptake.specs.Uptake.{percentOf, saturationOf, absorbable, abs
 use Rattle.uptake.specs.Ready.{absorbableOf, Accepted}
 use Rattle.uptake.proofs.Laws.{absorbable-most, total-most}
 
--- f's values for the first few media are added to a start
-pub record Summed (f : ℕ → ℕ) (start sum medium : ℕ) : Type 0 where
-  pub within : medium ≤ 5
-  pub value : sum ≡ sumTo medium f + start
-  pub small : sum ≤ start + medium * 1_000_000_000
-
-pub summed-none : (f : ℕ → ℕ) (start : ℕ) → Summed f start start 0
-unfolding sumTo
-summed-none f start = record { within = omega arith; value = omega arith; small = omega arith }
-
-module _ {f : ℕ → ℕ} {start sum medium : ℕ} (s : Summed f start sum medium) where
-  pub summed-next : {v : ℕ} → medium < 5 → v ≡ f medium → v ≤ 1_000_000_000 → Summed f start (sum + v) (medium + 1)
-  summed-next l e h =
-      record {
-        within = omega arith;
-        value = omega (arith, s .value, sum-next medium f);
-        small = omega (arith, s .small);
-      }
-
-  pub summed-all : 5 ≤ medium → sum ≡ sumTo 5 f + start
-  summed-all h = let all : medium ≡ 5 = omega (arith, s .within) in rw all at (s .value)
-
 -- ---- the five q and A
 
--- f's values for the first few media are stored and summed
+-- f's values for the first few media are stored and summed, each at most 10^9
 pub record Gathered (f : ℕ → ℕ) (media : List ℕ) (total medium : ℕ) : Type 0 where
-  pub summed : Summed f 0 total medium
-  pub size : length media ≡ 5
-  pub stored : take medium media ≡ tab medium f
+  pub filled : Filled f 5 media medium
+  pub summed : Summed f 5 1_000_000_000 0 total medium
 
 pub gathered-none : (f : ℕ → ℕ) → Gathered f (0 ∷ 0 ∷ 0 ∷ 0 ∷ 0 ∷ []) 0 0
-unfolding tab
-gathered-none f = record { summed = summed-none f 0; size = refl; stored = refl }
+gathered-none f = record { filled = filled-none f _ refl; summed = summed-none f 5 1_000_000_000 0 }
 
-module _ {f : ℕ → ℕ} {media : List ℕ} {total medium : ℕ} (g : Gathered f media total medium) where
-  pub gathered-next : {v : ℕ} → medium < 5 → v ≡ f medium → v ≤ 1_000_000_000 → Gathered f (set media medium v) (total + v) (medium + 1)
-  gathered-next {v} l e h =
-      record {
-        summed = summed-next (g .summed) l e h;
-        size = length-set media medium v ∙ g .size;
-        stored = tab-store f media medium v (omega (arith, g .size)) (g .stored) e;
-      }
-
-  gathered-media : 5 ≤ medium → media ≡ tab 5 f
-  gathered-media h =
-      let all : medium ≡ 5 = omega (arith, g .summed .within) in
-      tab-whole f media 5 (g .size) (rw all at (g .stored))
-
-  gathered-total : 5 ≤ medium → total ≡ sumTo 5 f
-  gathered-total h = omega (arith, summed-all (g .summed) h)
+pub gathered-next : {f : ℕ → ℕ} {media : List ℕ} {total medium v : ℕ} → Gathered f media total medium → medium < 5 → v ≡ f medium → v ≤ 1_000_000_000
+    → Gathered f (set media medium v) (total + v) (medium + 1)
+gathered-next g l e h = record { filled = filled-next (g .filled) l e; summed = summed-next (g .summed) l e h }
 
 -- the q of a medium, from what the loop reads
 abbrev pub absorbableFrom : List ℕ → List ℕ → ℕ → ℕ
@@ -79,7 +41,7 @@ pub absorbable-all : {e : Exposure} {i : Intakes} {media : List ℕ} {total medi
 unfolding absorbableOf absorbableTotal absorbable
 absorbable-all {e} {i} {media} {total} {medium} accepted gathered h =
     let g : Gathered (absorbable e) media total medium = rw (accepted .intakes) at gathered in
-    ap₂ (λ (m : List ℕ) (t : ℕ). record { media = m; total = t }) (gathered-media g h) (gathered-total g h)
+    ap₂ (λ (m : List ℕ) (t : ℕ). record { media = m; total = t }) (filled-all (g .filled) h) (omega (arith, summed-all (g .summed) h))
 
 -- ---- the day's uptake
 
@@ -110,7 +72,7 @@ module _ {e : Exposure} {i : Intakes} (accepted : Accepted e i) {q : Absorbable}
     uptake-is medium l = rw (stored-is e same medium l, total-is e same, saturation)
 
     pub day-all : {air sum medium : ℕ} → air ≡ percentOf (e .«air_absorption») (i .air)
-        → Summed (uptakeFrom (e .passive) q sat) air sum medium → 5 ≤ medium → sum ≡ dayUptake e weight weight24
+        → Summed (uptakeFrom (e .passive) q sat) 5 1_000_000_000 air sum medium → 5 ≤ medium → sum ≡ dayUptake e weight weight24
     unfolding dayUptake airUptake intakesOf
     day-all breathed summed h =
         summed-all summed h

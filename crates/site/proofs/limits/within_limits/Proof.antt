@@ -35,7 +35,7 @@ returns c =
     let l = c .before .before .before .loop in
     let fields = c .before .before .before .before .args .t1 in
     let over : at limits (l .place) < at fields (l .place) = rw (c .before .limit-of .ensures) at (c .if1 .taken) in
-    sym (every-stop (fieldWithin fields) (l .place) 94 (c .before .before .loop-test .taken) (lt-leb _ _ over)) ∙ l .inv
+    every-stop (fieldWithin fields) (l .place) 94 (l .inv) (c .before .before .loop-test .taken) (lt-leb _ _ over)
 
 add-place : tie.Need-add-place Inv-loop μ-loop
 add-place c = search needs
@@ -48,12 +48,10 @@ loop-again c =
     let l = c .before .before .before .loop in
     let fields = c .before .before .before .before .args .t1 in
     let within : at fields (l .place) ≤ at limits (l .place) = rw (c .before .limit-of .ensures) at (c .if1 .left) in
-    sym (every-next (fieldWithin fields) (l .place) 94 (c .before .before .loop-test .taken) (le-leb _ _ within)) ∙ l .inv
+    every-next (fieldWithin fields) (l .place) 94 (l .inv) (c .before .before .loop-test .taken) (le-leb _ _ within)
 
 returns-2 : tie.Need-returns-2 Inv-loop μ-loop
-returns-2 c =
-    let l = c .before .loop in
-    sym (every-done (fieldWithin (c .before .before .args .t1)) (l .place) 94 (c .loop-test .left)) ∙ l .inv
+returns-2 c = every-done _ (c .before .loop .place) 94 (c .before .loop .inv) (c .loop-test .left)
 
 pub within-limits-spec : {M : Type 1} → statement M
 within-limits-spec =
