@@ -8,7 +8,7 @@ use native.Mathlib.Omega.{arith}
 use lib.Dec.{leb}
 use lib.ListN.{getD}
 use Rattle.numbers.proofs.Every.{length-tab, getD-tab}
-use Rattle.numbers.proofs.Lists.{getD-below}
+use Rattle.numbers.proofs.Lists.{each-getD, getD-below}
 use Rattle.book.specs.declared.Rates.{Rates}
 use Rattle.book.specs.Row.{unit, out, back, exit, rowNumbers, rowOf, rowFits}
 use Rattle.book.specs.Ready.{Rates32}
@@ -57,13 +57,9 @@ module _ (table : List ℕ) (small : (k : ℕ) → getD table k 0 < 4_294_967_29
 
   -- any six of the numbers
   six-small : (a b c d e f i : ℕ) → getD (number a ∷ number b ∷ number c ∷ number d ∷ number e ∷ number f ∷ []) i 0 < 4_294_967_296
-  six-small a b c d e f zero = number-small a
-  six-small a b c d e f (suc zero) = number-small b
-  six-small a b c d e f (suc (suc zero)) = number-small c
-  six-small a b c d e f (suc (suc (suc zero))) = number-small d
-  six-small a b c d e f (suc (suc (suc (suc zero)))) = number-small e
-  six-small a b c d e f (suc (suc (suc (suc (suc zero))))) = number-small f
-  six-small a b c d e f (suc (suc (suc (suc (suc (suc i)))))) = omega arith
+  six-small a b c d e f =
+      each-getD (λ x. x < 4_294_967_296) (omega arith) (number a ∷ number b ∷ number c ∷ number d ∷ number e ∷ number f ∷ [])
+      (number-small a, (number-small b, (number-small c, (number-small d, (number-small e, (number-small f, tt))))))
 
   pub row-rates32 : Rates32 (rowOf table m .rates)
   unfolding rowOf

@@ -2,10 +2,9 @@
 -- Assumes nothing.
 use Rattle.block.proofs.read.check_of.Statement.{statement}
 use Rattle.block.proofs.read.check_of.Tie as tie
-use mathlib.Core.Path.{_≡_, ap}
+use mathlib.Core.Path.{ap}
 use Prim.Native.Nat.{ℕ, _+_, _*_, _-_, _≤_}
 use native.Mathlib.Omega.{arith}
-use denote.Ref.{now}
 use Rattle.numbers.proofs.Loops.{Summed, summed-none, summed-next, summed-all}
 use Rattle.block.specs.Block.{checkOf}
 use Rattle.block.proofs.Laws.{weighed, word-part-le}
