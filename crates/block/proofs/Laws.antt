@@ -1,4 +1,4 @@
--- Laws of reading a block that the functions' proofs cite.
+-- Laws of reading a block: past its end, the parts of its check, and its refusals in their order.
 -- Assumes nothing.
 use mathlib.Core.Path.{_≡_, sym, _∙_}
 use mathlib.Core.Bool.{Bool, true}
@@ -26,13 +26,21 @@ module _ (s : List ℕ) (at : ℕ) (past : length s ≤ at) where
   unfolding fieldAt
   field-end = omega (arith, List·getD-eq-default s 0 past, byte-end 1, byte-end 2, byte-end 3)
 
+-- field k of a block
+abbrev pub field : List ℕ → ℕ → ℕ
+field s k = fieldAt s (4 + 4 * k)
+
+-- word n times its position, which the check sums
+abbrev pub weighed : List ℕ → ℕ → ℕ
+weighed s n = wordAt s (2 * n) * (n + 1)
+
 -- a word times its position, of 254
 pub word-part-le : {w n : ℕ} → w ≤ 65535 → n < 254 → w * (n + 1) ≤ 16645890
 word-part-le {w} {n} hw hn =
     let h : n + 1 ≤ 254 = omega arith in
     mul-le-mul hw h
 
--- what the byte test says of a byte
+-- the byte at a place is zero
 abbrev pub isZero : List ℕ → ℕ → Bool
 isZero s i = eqb (byteAt s i) 0
 

@@ -8,21 +8,22 @@ use native.Mathlib.Decide.{decLt}
 use native.Mathlib.Omega.{arith}
 use lib.ListN.{length, getD}
 use lib.Dec.{eqb, leb}
-use borrow.Author.Tests.{leb-true, ltb-true, eqb-true, eq-eqb}
+use borrow.Author.Tests.{leb-true, ltb-true, eq-eqb}
 use Rattle.numbers.specs.Choice.{unless}
 use Rattle.numbers.specs.Sums.{sumTo}
-use Rattle.numbers.proofs.Every.{and-left, and-right, every-at, getD-tab, tab-same}
+use Rattle.numbers.proofs.Every.{and-left, and-right, every-at, getD-tab}
 use Rattle.numbers.proofs.Refusals.{orElse-none, firstOf-none, unless-none}
-use Rattle.block.specs.Block.{fieldAt, blockRefusal, fieldsOf, blockAt}
+use Rattle.block.specs.Block.{blockRefusal, fieldsOf, blockAt}
+use Rattle.block.proofs.Laws.{field}
 use Rattle.block.proofs.Sealed.{accepted-check}
 use Rattle.book.specs.declared.Rates.{Rates}
 use Rattle.book.specs.declared.Row.{Row}
-use Rattle.book.specs.Row.{unit, out, back, exit, rowNumbers, rowFrom, rowOf, volumesFit, weightsFit, returnsFit, ratesFit, rowFits, rowsFit}
+use Rattle.book.specs.Row.{unit, out, back, exit, rowOf, volumesFit, weightsFit, returnsFit, ratesFit, rowFits, rowsFit}
 use Rattle.book.specs.Limits.{RateLimits, RowLimits}
 use Rattle.book.specs.Book.{blockNumbers, bookBlockRefusal, blocksRefusal, bookRefusal, numbersOf, bookTable}
 use Rattle.book.specs.Laws.{RowsWithin, RightChecks, WholeBook}
-use Rattle.book.proofs.Tests.{returnFits}
-use Rattle.book.proofs.Decode.{numberAt}
+use Rattle.book.proofs.Tests.{returnFits, monthFits}
+use Rattle.book.proofs.Decode.{numberAt, number-in-block, row-in-block}
 
 -- both of two tests that hold together
 both : (a b : Bool) → a && b ≡ true → (a ≡ true) × (b ≡ true)
@@ -64,7 +65,7 @@ module _ (w : Row) (fit : rowFits w ≡ true) where
       let a = both (volumesFit w) _ fit in
       (a .0, both (weightsFit w) _ (a .1))
 
-  pub row-limits : RowLimits w
+  row-limits : RowLimits w
   unfolding volumesFit weightsFit
   row-limits =
       let t = row-tests in
@@ -120,27 +121,9 @@ whole-book book long h = rw (eq-eqb (length book) 8704 long, blocks-none book 0 
 pub number-read : (book : List ℕ) (n j : ℕ) → n < 17 → j < 115 → getD (numbersOf book) (115 * n + j) 0 ≡ getD (blockNumbers (blockAt book n)) j 0
 unfolding numbersOf fieldsOf
 number-read book n j hn hj =
-    let block : (115 * n + j) / 115 ≡ n = omega arith in
-    let place : (115 * n + j) % 115 ≡ j = omega arith in
-    getD-tab 1955 (numberAt book) (115 * n + j) (omega arith)
-    ∙ ap₂ (λ (b k : ℕ). fieldAt (blockAt book b) (4 + 4 * k)) block place
-    ∙ sym (getD-tab 115 (λ (k : ℕ). fieldAt (blockAt book n) (4 + 4 * k)) j hj)
-
--- row 5 n + r of the book's table is row r of block n
-row-read : (book : List ℕ) (n r : ℕ) → n < 17 → r < 5 → rowOf (numbersOf book) (5 * n + r) ≡ rowOf (blockNumbers (blockAt book n)) r
-unfolding rowOf rowNumbers
-row-read book n r hn hr =
-    ap rowFrom
-    (tab-same 23 (λ (k : ℕ). getD (numbersOf book) (23 * (5 * n + r) + k) 0) (λ (k : ℕ). getD (blockNumbers (blockAt book n)) (23 * r + k) 0)
-    (λ k l.
-    let at : 23 * (5 * n + r) + k ≡ 115 * n + (23 * r + k) = omega arith in
-    ap (λ (i : ℕ). getD (numbersOf book) i 0) at ∙ number-read book n (23 * r + k) hn (omega arith)))
+    getD-tab 1955 (numberAt book) (115 * n + j) (omega arith) ∙ number-in-block book n j hj ∙ sym (getD-tab 115 (field (blockAt book n)) j hj)
 
 module _ (book : List ℕ) (passed : bookRefusal book ≡ 0) where
-  pub accepted-long : length book ≡ 8704
-  unfolding bookRefusal
-  accepted-long = eqb-true _ _ (unless-none _ 0 (firstOf-none (unless (eqb (length book) 8704) 1 ∷ blocksRefusal book 0 17 ∷ []) passed 0))
-
   block-passed : (n : ℕ) → n < 17 → bookBlockRefusal (blockAt book n) n ≡ 0
   unfolding bookRefusal
   block-passed n h =
@@ -165,8 +148,7 @@ module _ (book : List ℕ) (passed : bookRefusal book ≡ 0) where
     rows-passed : (r : ℕ) → r < 5 → rowFits (rowOf (blockNumbers block) r) ≡ true
     unfolding bookBlockRefusal rowsFit
     rows-passed r l =
-        every-at (λ (row : ℕ). rowFits (rowOf (blockNumbers block) row)) 0 5 (unless-none _ 7 (firstOf-none refusals (block-passed n h) 1)) r (omega arith)
-        (omega arith)
+        every-at (monthFits (blockNumbers block)) 0 5 (unless-none _ 7 (firstOf-none refusals (block-passed n h) 1)) r (omega arith) (omega arith)
 
 pub rows-within : RowsWithin
 rows-within book passed month h =
@@ -175,7 +157,8 @@ rows-within book passed month h =
     let split : month ≡ 5 * (month / 5) + month % 5 = omega arith in
     let below : month / 5 < 17 = omega arith in
     let same : rowOf (bookTable book) month ≡ rowOf (blockNumbers (blockAt book n)) r =
-    ap₂ rowOf (accepted-numbers book passed) split ∙ row-read book n r below (omega arith) in
+    ap₂ rowOf (accepted-numbers book passed) split
+    ∙ row-in-block n (numbersOf book) (blockNumbers (blockAt book n)) (λ j. number-read book n j below) r (omega arith) in
     rw same (row-limits (rowOf (blockNumbers (blockAt book n)) r) (rows-passed book passed n below r (omega arith)))
 
 pub right-checks : RightChecks

@@ -1,6 +1,6 @@
--- The book reader's ways out, in their order.
+-- The book reader's ways out: each refusal beside a table of zeros, and the table of an accepted book.
 -- Assumes nothing.
-use mathlib.Core.Path.{_≡_, refl, sym, _∙_}
+use mathlib.Core.Path.{_≡_, refl, sym, ap, _∙_}
 use mathlib.Core.List.{List}
 use Prim.Native.Nat.{ℕ, zero, suc}
 use native.Mathlib.Omega.{arith}
@@ -11,31 +11,27 @@ use Rattle.book.specs.Book.{bookRefusal, blankTable, bookTable}
 use Rattle.book.specs.Ready.{BookDecoded}
 
 module _ (book : List ℕ) where
-  blank-beside : (r : ℕ) → bookRefusal book ≡ r → (r ≡ 0 → ⊥) → blankTable ≡ bookTable book
-  unfolding bookTable
-  blank-beside zero e h = absurd (h refl)
-  blank-beside (suc r) e h = rw e
+  -- a refusal, beside a table that was set to zeros
+  refused-blank : (r : ℕ) {size : ℕ} {table : List ℕ} → r ≡ bookRefusal book → (r ≡ 0 → ⊥) → size ≡ 1955 → table ≡ replicate size 0
+      → (r ≡ bookRefusal book) × (table ≡ bookTable book)
+  unfolding bookTable blankTable
+  refused-blank zero e h full zeros = absurd (h refl)
+  refused-blank (suc r) e h full zeros = (e, zeros ∙ ap (λ (n : ℕ). replicate n 0) full ∙ rw (← e))
 
-  -- the answer and the table where the length is wrong
-  module _ (short : length book ≡ 8704 → ⊥) where
-    pub refused-length : 1 ≡ bookRefusal book
+  pub refused-length : (length book ≡ 8704 → ⊥) → {size : ℕ} {table : List ℕ} → size ≡ 1955 → table ≡ replicate size 0
+      → (1 ≡ bookRefusal book) × (table ≡ bookTable book)
+  unfolding bookRefusal
+  refused-length short = refused-blank 1 (rw (ne-eqb (length book) 8704 short)) (λ z. omega arith)
+
+  -- where the length is right, by what the blocks came to
+  module _ (long : length book ≡ 8704) {decoded : List ℕ} {r : ℕ} (d : BookDecoded book decoded r) where
+    refusal-of-blocks : r ≡ bookRefusal book
     unfolding bookRefusal
-    refused-length = rw (ne-eqb (length book) 8704 short)
+    refusal-of-blocks = rw (eq-eqb (length book) 8704 long, ← d .refusal) (sym (orElse-last r))
 
-    pub blank-length : (table : List ℕ) → table ≡ replicate 1955 0 → table ≡ bookTable book
-    unfolding blankTable
-    blank-length table e = e ∙ blank-beside 1 (sym refused-length) (λ z. omega arith)
+    pub refused-block : (r ≡ 0 → ⊥) → {table : List ℕ} → table ≡ replicate (length decoded) 0 → (r ≡ bookRefusal book) × (table ≡ bookTable book)
+    refused-block h = refused-blank r refusal-of-blocks h (d .long)
 
-  -- and where it is right, by what the blocks came to
-  module _ (long : length book ≡ 8704) (decoded : List ℕ) (r : ℕ) (d : BookDecoded book decoded r) where
-    pub refused-block : r ≡ bookRefusal book
-    unfolding bookRefusal
-    refused-block = rw (eq-eqb (length book) 8704 long, ← d .refusal) (sym (orElse-last r))
-
-    pub blank-block : (r ≡ 0 → ⊥) → (table : List ℕ) → table ≡ replicate 1955 0 → table ≡ bookTable book
-    unfolding blankTable
-    blank-block h table e = e ∙ blank-beside r (sym refused-block) h
-
-    pub accepted-table : r ≡ 0 → decoded ≡ bookTable book
+    pub accepted-book : r ≡ 0 → (0 ≡ bookRefusal book) × (decoded ≡ bookTable book)
     unfolding bookTable
-    accepted-table z = d .table z ∙ rw (sym refused-block ∙ z)
+    accepted-book z = (sym z ∙ refusal-of-blocks, d .table z ∙ rw (sym refusal-of-blocks ∙ z))

@@ -4,6 +4,7 @@ use mathlib.Core.Path.{_≡_, refl, sym, ap, ap₂, _∙_}
 use mathlib.Core.Bool.{Bool}
 use mathlib.Core.List.{List, _++_, append-assoc}
 use Prim.Native.Nat.{ℕ, suc, _+_, _-_, _*_, _/_, _%_, _≤_, _<_}
+use native.Mathlib.Nat.{zero-add}
 use native.Mathlib.Numerals.{add-one}
 use native.Mathlib.Omega.{arith}
 use lib.ListN.{length, getD, take, drop, length-append, length-drop, List·getD-append}
@@ -11,28 +12,57 @@ use lib.Seq.{getD-append-add, take-at, length-take-le, take-all}
 use Rattle.numbers.specs.Choice.{unless, orElse, tab}
 use Rattle.numbers.proofs.Every.{every-shift, tab-same, tab-append, length-tab}
 use Rattle.numbers.proofs.Refusals.{orElse-first, orElse-last}
-use Rattle.block.specs.Block.{fieldAt, blockRefusal, fieldsOf, blockAt}
+use Rattle.block.specs.Block.{blockRefusal, fieldsOf, blockAt}
+use Rattle.block.proofs.Laws.{field}
 use Rattle.book.specs.Row.{rowNumbers, rowFrom, rowOf, rowFits, rowsFit}
 use Rattle.book.specs.Book.{blockNumbers, bookBlockRefusal, blocksRefusal, numbersOf}
 use Rattle.book.specs.Ready.{placed, BlockDecoded, BookDecoded}
+use Rattle.book.proofs.Tests.{monthFits}
 
 -- the part of the book that the code lends is the block
-pub lent-block : (book : List ℕ) (n : ℕ) → take (512 * n + 512 - 512 * n) (drop (512 * n) book) ≡ blockAt book n
+lent-block : (book : List ℕ) (n : ℕ) → take (512 * n + 512 - 512 * n) (drop (512 * n) book) ≡ blockAt book n
 unfolding blockAt
 lent-block book n =
     let e : 512 * n + 512 - 512 * n ≡ 512 = omega arith in
     rw e
 
-pub length-numbers : (block : List ℕ) → length (blockNumbers block) ≡ 115
+length-numbers : (block : List ℕ) → length (blockNumbers block) ≡ 115
 unfolding fieldsOf
-length-numbers block = length-tab 115 (λ (k : ℕ). fieldAt block (4 + 4 * k))
+length-numbers block = length-tab 115 (field block)
+
+-- number j of the book, and number j of its block n
+abbrev pub numberAt : List ℕ → ℕ → ℕ
+numberAt book j = field (blockAt book (j / 115)) (j % 115)
+
+pub number-in-block : (book : List ℕ) (n j : ℕ) → j < 115 → numberAt book (115 * n + j) ≡ field (blockAt book n) j
+number-in-block book n j h =
+    let block : (115 * n + j) / 115 ≡ n = omega arith in
+    let place : (115 * n + j) % 115 ≡ j = omega arith in
+    ap₂ (λ (b k : ℕ). field (blockAt book b) k) block place
+
+-- where the part of a table for block n is these 115 numbers, its five rows are theirs
+module _ (n : ℕ) (table numbers : List ℕ) (same : (j : ℕ) → j < 115 → getD table (115 * n + j) 0 ≡ getD numbers j 0) where
+  pub row-in-block : (r : ℕ) → r < 5 → rowOf table (5 * n + r) ≡ rowOf numbers r
+  unfolding rowOf rowNumbers
+  row-in-block r h =
+      ap rowFrom
+      (tab-same 23 (λ (k : ℕ). getD table (23 * (5 * n + r) + k) 0) (λ (k : ℕ). getD numbers (23 * r + k) 0)
+      (λ k l.
+      let at : 23 * (5 * n + r) + k ≡ 115 * n + (23 * r + k) = omega arith in
+      ap (λ (i : ℕ). getD table i 0) at ∙ same (23 * r + k) (omega arith)))
+
+  pub rows-in-block : rowsFit table (5 * n) ≡ rowsFit numbers 0
+  unfolding rowsFit
+  rows-in-block =
+      every-shift (monthFits table) (monthFits numbers) (5 * n) 0 5
+      (λ r h. ap rowFits (row-in-block r h ∙ ap (rowOf numbers) (sym (zero-add r))))
 
 -- a table with a block's numbers in their place
 module _ (n : ℕ) (numbers table : List ℕ) (long : length table ≡ 1955) (below : n < 17) (full : length numbers ≡ 115) where
   length-front : length (take (115 * n) table) ≡ 115 * n
   length-front = length-take-le (115 * n) table (omega arith)
 
-  pub length-placed : length (placed n numbers table) ≡ 1955
+  length-placed : length (placed n numbers table) ≡ 1955
   unfolding placed
   length-placed =
       length-append (take (115 * n) table) (numbers ++ drop 115 (drop (115 * n) table))
@@ -45,21 +75,8 @@ module _ (n : ℕ) (numbers table : List ℕ) (long : length table ≡ 1955) (be
       ∙ getD-append-add (take (115 * n) table) (numbers ++ drop 115 (drop (115 * n) table)) j 0
       ∙ List·getD-append numbers (drop 115 (drop (115 * n) table)) 0 j (omega arith)
 
-  row-placed : (r : ℕ) → r < 5 → rowOf (placed n numbers table) (5 * n + r) ≡ rowOf numbers (0 + r)
-  unfolding rowOf rowNumbers
-  row-placed r h =
-      ap rowFrom
-      (tab-same 23 (λ (k : ℕ). getD (placed n numbers table) (23 * (5 * n + r) + k) 0) (λ (k : ℕ). getD numbers (23 * (0 + r) + k) 0)
-      (λ k l.
-      let at : 23 * (5 * n + r) + k ≡ 115 * n + (23 * (0 + r) + k) = omega arith in
-      ap (λ (i : ℕ). getD (placed n numbers table) i 0) at ∙ number-placed (23 * (0 + r) + k) (omega arith)))
-
-  -- the five rows of block n of the table are the block's five rows
   rows-placed : rowsFit (placed n numbers table) (5 * n) ≡ rowsFit numbers 0
-  unfolding rowsFit
-  rows-placed =
-      every-shift (λ (row : ℕ). rowFits (rowOf (placed n numbers table) row)) (λ (row : ℕ). rowFits (rowOf numbers row)) (5 * n) 0 5
-      (λ r h. ap rowFits (row-placed r h))
+  rows-placed = rows-in-block n (placed n numbers table) numbers number-placed
 
   -- the blocks before, and then this one
   take-placed : take (115 * n + 115) (placed n numbers table) ≡ take (115 * n) table ++ numbers
@@ -68,6 +85,10 @@ module _ (n : ℕ) (numbers table : List ℕ) (long : length table ≡ 1955) (be
       ap (take (115 * n + 115)) (sym (append-assoc (take (115 * n) table) numbers (drop 115 (drop (115 * n) table))))
       ∙ take-at (take (115 * n) table ++ numbers) (drop 115 (drop (115 * n) table)) (115 * n + 115)
       (length-append (take (115 * n) table) numbers ∙ omega (arith, length-front))
+
+-- the table as the code leaves it, with numbers stored in the part lent for block n
+abbrev pub stored : ℕ → List ℕ → List ℕ → List ℕ
+stored n numbers table = take (115 * n) table ++ (numbers ++ drop (115 * n + 115 - 115 * n) (drop (115 * n) table))
 
 -- block n of a book
 module _ (book : List ℕ) (n : ℕ) (table : List ℕ) (long : length table ≡ 1955) where
@@ -94,32 +115,25 @@ module _ (book : List ℕ) (n : ℕ) (table : List ℕ) (long : length table ≡
           length-take-le (115 * n + 115 - 115 * n) (drop (115 * n) table) (omega (arith, length-drop (115 * n) table)) ∙ omega arith in
           read ∙ ap₂ fieldsOf few (lent-block book n)
 
-      abbrev left : List ℕ
-      left = take (115 * n) table ++ (numbers ++ drop (115 * n + 115 - 115 * n) (drop (115 * n) table))
-
-      left-placed : left ≡ placed n (blockNumbers (blockAt book n)) table
+      stored-placed : stored n numbers table ≡ placed n (blockNumbers (blockAt book n)) table
       unfolding placed
-      left-placed =
+      stored-placed =
           let count : 115 * n + 115 - 115 * n ≡ 115 = omega arith in
           ap₂ (λ (x : List ℕ) (k : ℕ). take (115 * n) table ++ (x ++ drop k (drop (115 * n) table))) read-numbers count
 
       -- its numbers placed, refused by its rows or not at all
-      pub checked-rows : {fit : Bool} → rowsFit left (5 * n) ≡ fit → BlockDecoded book n table left (unless fit 8)
+      pub checked-rows : {fit : Bool} → rowsFit (stored n numbers table) (5 * n) ≡ fit → BlockDecoded book n table (stored n numbers table) (unless fit 8)
       unfolding bookBlockRefusal
       checked-rows {fit} rows =
           let numbers-long = length-numbers (blockAt book n) in
           let own : rowsFit (blockNumbers (blockAt book n)) 0 ≡ fit =
-          sym (rows-placed n (blockNumbers (blockAt book n)) table long below numbers-long) ∙ ap (λ (l : List ℕ). rowsFit l (5 * n)) (sym left-placed) ∙ rows in
+          sym (rows-placed n (blockNumbers (blockAt book n)) table long below numbers-long) ∙ ap (λ (l : List ℕ). rowsFit l (5 * n)) (sym stored-placed) ∙ rows in
           let passed : blockRefusal (blockAt book n) n 1 464 ≡ 0 = ap (λ (b : List ℕ). blockRefusal b n 1 464) (sym (lent-block book n)) ∙ header in
           record {
             refusal = sym (rw (passed, own) (orElse-last (unless fit 8)));
-            long = ap length left-placed ∙ length-placed n (blockNumbers (blockAt book n)) table long below numbers-long;
-            table = λ z. left-placed;
+            long = ap length stored-placed ∙ length-placed n (blockNumbers (blockAt book n)) table long below numbers-long;
+            table = λ z. stored-placed;
           }
-
--- number j of the book
-abbrev pub numberAt : List ℕ → ℕ → ℕ
-numberAt book j = fieldAt (blockAt book (j / 115)) (4 + 4 * (j % 115))
 
 -- the loop over the blocks, at block n
 pub record AtBlock (book table : List ℕ) (n : ℕ) : Type 0 where
@@ -150,11 +164,7 @@ module _ (book table : List ℕ) where
       numbers-next : tab 115 (λ (j : ℕ). numberAt book (115 * n + j)) ≡ blockNumbers (blockAt book n)
       unfolding fieldsOf
       numbers-next =
-          tab-same 115 (λ (j : ℕ). numberAt book (115 * n + j)) (λ (j : ℕ). fieldAt (blockAt book n) (4 + 4 * j))
-          (λ j l.
-          let block : (115 * n + j) / 115 ≡ n = omega arith in
-          let place : (115 * n + j) % 115 ≡ j = omega arith in
-          ap₂ (λ (b k : ℕ). fieldAt (blockAt book b) (4 + 4 * k)) block place)
+          tab-same 115 (λ (j : ℕ). numberAt book (115 * n + j)) (field (blockAt book n)) (number-in-block book n)
 
       front-next : r ≡ 0 → take (115 * (n + 1)) after ≡ tab (115 * (n + 1)) (numberAt book)
       front-next z =

@@ -1,18 +1,24 @@
--- A written block of a book is read back as its body's numbers, and as the numbers that were laid out.
+-- A written block of a book is read back as its body's numbers and as the numbers that were laid out, and so is the whole book.
 -- Assumes nothing.
 use mathlib.Core.Path.{_≡_, sym, ap, _∙_}
+use mathlib.Core.Bool.{true}
 use mathlib.Core.List.{List}
-use Prim.Native.Nat.{ℕ, _+_, _*_, _≤_}
+use Prim.Native.Nat.{ℕ, _+_, _*_, _/_, _%_, _≤_, _<_}
 use native.Mathlib.Omega.{arith}
-use lib.ListN.{length, getD}
+use lib.ListN.{length, getD, drop, length-drop}
+use lib.Seq.{length-take-le, getD-take, getD-drop, ext-getD}
+use Rattle.numbers.proofs.Every.{every-of, length-tab}
+use Rattle.numbers.proofs.Lists.{getD-below}
 use Rattle.block.specs.Block.{blockRefusal, fieldsOf, blockAt}
 use Rattle.block.specs.Writer.{sealed, bodyOf}
 use Rattle.block.proofs.Laid.{body-passes, fields-body}
 use Rattle.block.proofs.Sealed.{fields-sealed, sealed-passes, written-sealed}
-use Rattle.book.specs.Row.{rowsFit}
-use Rattle.book.specs.Book.{blockNumbers, bookBlockRefusal}
-use Rattle.book.specs.Laws.{BodyReadBack, NumbersReadBack}
-use Rattle.book.proofs.Accepted.{number-read}
+use Rattle.book.specs.Row.{rowOf, rowFits, rowsFit}
+use Rattle.book.specs.Book.{blockNumbers, bookBlockRefusal, numbersOf}
+use Rattle.book.specs.Laws.{BlockReads, BodyReadBack, NumbersReadBack, blockPart, BookReadBack}
+use Rattle.book.proofs.Accepted.{whole-book, number-read, accepted-numbers}
+use Rattle.book.proofs.Decode.{numberAt, rows-in-block}
+use Rattle.book.proofs.Tests.{monthFits}
 
 pub body-read-back : BodyReadBack
 unfolding bookBlockRefusal
@@ -35,3 +41,46 @@ numbers-read-back book numbers target n below room here long small fit =
     rw same at
     (body-read-back book (bodyOf n 1 numbers) target n below room here (rw used at (body-passes n 1 numbers few (omega arith) (omega arith)))
     (ap (λ (l : List ℕ). rowsFit l 0) same ∙ fit))
+
+-- the 115 numbers of a block, of all numbers of a book
+module _ (numbers : List ℕ) (long : length numbers ≡ 1955) (n : ℕ) (below : n < 17) where
+  length-part : length (blockPart numbers n) ≡ 115
+  length-part = length-take-le 115 (drop (115 * n) numbers) (omega (arith, length-drop (115 * n) numbers))
+
+  number-of-part : (j : ℕ) → j < 115 → getD (blockPart numbers n) j 0 ≡ getD numbers (115 * n + j) 0
+  number-of-part j h = getD-take 115 (drop (115 * n) numbers) j 0 h ∙ getD-drop (115 * n) numbers j 0
+
+  part-small : ((k : ℕ) → getD numbers k 0 < 4_294_967_296) → (k : ℕ) → getD (blockPart numbers n) k 0 < 4_294_967_296
+  part-small small =
+      getD-below 4_294_967_296 (omega arith) (blockPart numbers n)
+      (λ k h. rw (number-of-part k (omega (arith, length-part))) (small (115 * n + k)))
+
+  part-fits : ((month : ℕ) → month ≤ 84 → rowFits (rowOf numbers month) ≡ true) → rowsFit (blockPart numbers n) 0 ≡ true
+  unfolding rowsFit
+  part-fits fit =
+      sym (rows-in-block n numbers (blockPart numbers n) (λ j h. sym (number-of-part j h)))
+      ∙ every-of (monthFits numbers) (5 * n) 5 (λ month a b. fit month (omega arith))
+
+-- a book whose blocks read as these numbers has them, in all blocks together
+numbers-read : (book numbers : List ℕ) → length numbers ≡ 1955 → ((n : ℕ) → n < 17 → BlockReads book n (blockPart numbers n)) → numbersOf book ≡ numbers
+unfolding numbersOf
+numbers-read book numbers long reads =
+    ext-getD 0 (numbersOf book) numbers (length-tab 1955 (numberAt book) ∙ sym long)
+    (λ k h.
+    let n = k / 115 in
+    let here : k < 1955 = omega (arith, length-tab 1955 (numberAt book)) in
+    let below : k / 115 < 17 = omega arith in
+    let split : k ≡ 115 * (k / 115) + k % 115 = omega arith in
+    ap (λ (i : ℕ). getD (numbersOf book) i 0) split
+    ∙ reads n below .read (k % 115) (omega arith)
+    ∙ number-of-part numbers long n below (k % 115) (omega arith)
+    ∙ ap (λ (i : ℕ). getD numbers i 0) (sym split))
+
+pub book-read-back : BookReadBack
+book-read-back book numbers targets long-book long small fit room here =
+    let reads : (n : ℕ) → n < 17 → BlockReads book n (blockPart numbers n) =
+    λ n below.
+    numbers-read-back book (blockPart numbers n) (targets n) n below (room n below) (here n below) (length-part numbers long n below) (part-small numbers long n below small)
+    (part-fits numbers long n below fit) in
+    let accepted = whole-book book long-book (λ n below. reads n below .refusal) in
+    record { refusal = accepted; table = accepted-numbers book accepted ∙ numbers-read book numbers long reads }

@@ -4,18 +4,22 @@ use mathlib.Core.Path.{_≡_, refl}
 use mathlib.Core.Bool.{Bool}
 use mathlib.Core.List.{List, [], _∷_}
 use Prim.Native.Nat.{ℕ, zero, suc, _+_, _*_, _<_}
-use native.Mathlib.Decide.{decLt}
 use native.Mathlib.Omega.{arith}
 use lib.Dec.{leb}
-use lib.ListN.{getD, List·getD-eq-default}
+use lib.ListN.{getD}
 use Rattle.numbers.proofs.Every.{length-tab, getD-tab}
+use Rattle.numbers.proofs.Lists.{each-getD, getD-below}
 use Rattle.book.specs.declared.Rates.{Rates}
-use Rattle.book.specs.Row.{unit, out, back, exit, rowNumbers, rowOf}
+use Rattle.book.specs.Row.{unit, out, back, exit, rowNumbers, rowOf, rowFits}
 use Rattle.book.specs.Ready.{Rates32}
 
 -- what compartment i gives back and loses is at most D
 abbrev pub returnFits : Rates → ℕ → Bool
 returnFits r i = leb (back r i + exit r i) unit
+
+-- the row of a month is within its limits
+abbrev pub monthFits : List ℕ → ℕ → Bool
+monthFits table month = rowFits (rowOf table month)
 
 -- each rate out of plasma is a 32-bit field
 pub record OutsSmall (r : Rates) : Type 0 where
@@ -46,23 +50,16 @@ module _ (table : List ℕ) (small : (k : ℕ) → getD table k 0 < 4_294_967_29
 
   number-small : (k : ℕ) → number k < 4_294_967_296
   unfolding rowNumbers
-  number-small k =
-      elim (decLt k 23) [
-        | yes h ↦ rw (getD-tab 23 (λ (k : ℕ). getD table (23 * m + k) 0) k h) (small (23 * m + k))
-        | no h ↦
-            let past : number k ≡ 0 = List·getD-eq-default (rowNumbers table m) 0 (omega (arith, length-tab 23 (λ (k : ℕ). getD table (23 * m + k) 0))) in
-            omega arith
-      ]
+  number-small =
+      let its-number : ℕ → ℕ = λ (k : ℕ). getD table (23 * m + k) 0 in
+      getD-below 4_294_967_296 (omega arith) (rowNumbers table m)
+      (λ k h. rw (getD-tab 23 its-number k (omega (arith, length-tab 23 its-number))) (small (23 * m + k)))
 
   -- any six of the numbers
   six-small : (a b c d e f i : ℕ) → getD (number a ∷ number b ∷ number c ∷ number d ∷ number e ∷ number f ∷ []) i 0 < 4_294_967_296
-  six-small a b c d e f zero = number-small a
-  six-small a b c d e f (suc zero) = number-small b
-  six-small a b c d e f (suc (suc zero)) = number-small c
-  six-small a b c d e f (suc (suc (suc zero))) = number-small d
-  six-small a b c d e f (suc (suc (suc (suc zero)))) = number-small e
-  six-small a b c d e f (suc (suc (suc (suc (suc zero))))) = number-small f
-  six-small a b c d e f (suc (suc (suc (suc (suc (suc i)))))) = omega arith
+  six-small a b c d e f =
+      each-getD (λ x. x < 4_294_967_296) (omega arith) (number a ∷ number b ∷ number c ∷ number d ∷ number e ∷ number f ∷ [])
+      (number-small a, (number-small b, (number-small c, (number-small d, (number-small e, (number-small f, tt))))))
 
   pub row-rates32 : Rates32 (rowOf table m .rates)
   unfolding rowOf

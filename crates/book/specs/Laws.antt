@@ -4,10 +4,10 @@ use mathlib.Core.Path.{_≡_}
 use mathlib.Core.Bool.{true}
 use mathlib.Core.List.{List}
 use Prim.Native.Nat.{ℕ, _+_, _*_, _≤_, _<_}
-use lib.ListN.{length, getD}
+use lib.ListN.{length, getD, take, drop}
 use Rattle.block.specs.Block.{fieldAt, checkAt, checkOf, blockAt}
 use Rattle.block.specs.Writer.{written, bodyOf, BodyPasses}
-use Rattle.book.specs.Row.{rowOf, rowsFit}
+use Rattle.book.specs.Row.{rowOf, rowFits, rowsFit}
 use Rattle.book.specs.Limits.{RowLimits}
 use Rattle.book.specs.Book.{blockNumbers, bookBlockRefusal, numbersOf, bookRefusal, bookTable}
 
@@ -41,3 +41,19 @@ NumbersReadBack =
 abbrev pub WholeBook : Type 0
 WholeBook =
     (book : List ℕ) → length book ≡ 8704 → ((n : ℕ) → n < 17 → bookBlockRefusal (blockAt book n) n ≡ 0) → bookRefusal book ≡ 0
+
+-- the 115 of a book's numbers that stand in block n
+abbrev pub blockPart : List ℕ → ℕ → List ℕ
+blockPart numbers n = take 115 (drop (115 * n) numbers)
+
+-- a book is accepted and read as these numbers
+pub record BookReads (book numbers : List ℕ) : Type 0 where
+  pub refusal : bookRefusal book ≡ 0
+  pub table : bookTable book ≡ numbers
+
+-- 85 rows of 23 numbers of 32 bits, each row within its limits, laid out, written as the 17 blocks of a book and read, are these numbers
+abbrev pub BookReadBack : Type 0
+BookReadBack =
+    (book numbers : List ℕ) (targets : ℕ → List ℕ) → length book ≡ 8704 → length numbers ≡ 1955 → ((k : ℕ) → getD numbers k 0 < 4_294_967_296)
+    → ((month : ℕ) → month ≤ 84 → rowFits (rowOf numbers month) ≡ true) → ((n : ℕ) → n < 17 → length (targets n) ≡ 512)
+    → ((n : ℕ) → n < 17 → blockAt book n ≡ written (bodyOf n 1 (blockPart numbers n)) (targets n)) → BookReads book numbers

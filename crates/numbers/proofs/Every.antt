@@ -1,4 +1,4 @@
--- Laws of `every` and `tab`: a loop's step by step, and what they say at each number.
+-- Laws of `every` and `tab`: loops that look for a failure, what holds at each number, and the parts of a list.
 -- Assumes nothing.
 use mathlib.Core.Path.{_≡_, refl, sym, ap, ap₂, _∙_}
 use mathlib.Core.Bool.{Bool, true, false, _&&_}
@@ -8,27 +8,29 @@ use native.Mathlib.Nat.{not-suc-le-zero, add-zero, add-suc}
 use native.Mathlib.Numerals.{add-one}
 use native.Mathlib.Decide.{decLt}
 use native.Mathlib.Omega.{arith}
-use lib.ListN.{length, getD, take, set, replicate, length-append, List·getD-append, replicate-append-replicate}
-use lib.Seq.{getD-at, take-all, take-suc, take-suc-set}
+use lib.ListN.{length, getD, replicate, length-append, length-replicate, getD-replicate, List·getD-append}
+use lib.Seq.{getD-at, ext-getD}
 use Rattle.numbers.specs.Choice.{every, tab}
 
 -- one number fewer to look at
 gap : (i to : ℕ) → i < to → to - i ≡ suc (to - (i + 1))
 gap i to h = omega arith
 
--- a loop that goes up from i to `to` and stops at the first number that fails
-module _ (f : ℕ → Bool) (i to : ℕ) where
-  pub every-next : i < to → f i ≡ true → every f i (to - i) ≡ every f (i + 1) (to - (i + 1))
+-- a loop that goes up from i to `to` and stops at the first number that fails: what is left answers as the whole
+module _ (f : ℕ → Bool) (i to : ℕ) {whole : Bool} (left : every f i (to - i) ≡ whole) where
+  pub every-next : i < to → f i ≡ true → every f (i + 1) (to - (i + 1)) ≡ whole
   unfolding every
-  every-next h e = rw (gap i to h, e, add-one)
+  every-next h e =
+      let one-fewer : every f i (to - i) ≡ every f (i + 1) (to - (i + 1)) = rw (gap i to h, e, add-one) in
+      sym one-fewer ∙ left
 
-  pub every-stop : i < to → f i ≡ false → every f i (to - i) ≡ false
+  pub every-stop : i < to → f i ≡ false → false ≡ whole
   unfolding every
-  every-stop h e = rw (gap i to h, e)
+  every-stop h e = rw (gap i to h, e) at left
 
-  pub every-done : to ≤ i → every f i (to - i) ≡ true
+  pub every-done : to ≤ i → true ≡ whole
   unfolding every
-  every-done h = let e : to - i ≡ 0 = omega arith in rw e
+  every-done h = let none : to - i ≡ 0 = omega arith in rw none at left
 
 pub and-true : (a b : Bool) → a ≡ true → b ≡ true → a && b ≡ true
 and-true a b p q = rw (p, q)
@@ -104,27 +106,19 @@ unfolding tab
 tab-same zero f g h = refl
 tab-same (suc n) f g h = ap₂ (λ (l : List ℕ) (a : ℕ). l ++ (a ∷ [])) (tab-same n f g (λ k a. h k (omega arith))) (h n (omega arith))
 
--- a loop that stores f's values one after the other: what it has stored so far, and the whole
-pub tab-store : (f : ℕ → ℕ) (l : List ℕ) (i v : ℕ) → i < length l → take i l ≡ tab i f → v ≡ f i → take (i + 1) (set l i v) ≡ tab (i + 1) f
-unfolding tab
-tab-store f l i v h e p = rw add-one (take-suc-set l i v h ∙ ap₂ (λ (t : List ℕ) (a : ℕ). t ++ (a ∷ [])) e p)
+-- a list whose number at each place is f's value there is the list of f's values
+pub tab-is : (n : ℕ) (f : ℕ → ℕ) (l : List ℕ) → length l ≡ n → ((k : ℕ) → k < n → f k ≡ getD l k 0) → tab n f ≡ l
+tab-is n f l long h =
+    ext-getD 0 (tab n f) l (length-tab n f ∙ sym long)
+    (λ k below.
+    let k-below : k < n = omega (arith, length-tab n f) in
+    getD-tab n f k k-below ∙ h k k-below)
 
-pub tab-whole : (f : ℕ → ℕ) (l : List ℕ) (n : ℕ) → length l ≡ n → take n l ≡ tab n f → l ≡ tab n f
-tab-whole f l n h e = sym (take-all n l (omega arith)) ∙ e
-
--- a list copied element by element: what is copied so far, and the whole
-pub copy-store : (from to : List ℕ) (i v : ℕ) → i < length from → i < length to → take i to ≡ take i from → v ≡ getD from i 0
-    → take (i + 1) (set to i v) ≡ take (i + 1) from
-copy-store from to i v hf ht e p =
-    rw (add-one i) (take-suc-set to i v ht ∙ ap₂ (λ (l : List ℕ) (a : ℕ). l ++ (a ∷ [])) e p ∙ sym (take-suc from i 0 hf))
-
-pub copy-whole : (from to : List ℕ) (n : ℕ) → length from ≡ n → length to ≡ n → take n to ≡ take n from → to ≡ from
-copy-whole from to n hf ht e = sym (take-all n to (omega arith)) ∙ e ∙ take-all n from (omega arith)
+pub tab-getD : (n : ℕ) (l : List ℕ) → length l ≡ n → tab n (λ k. getD l k 0) ≡ l
+tab-getD n l long = tab-is n (λ k. getD l k 0) l long (λ k h. refl)
 
 pub tab-zeros : (n : ℕ) → tab n (λ k. 0) ≡ replicate n 0
-unfolding tab
-tab-zeros zero = refl
-tab-zeros (suc n) = ap (λ (l : List ℕ). l ++ (0 ∷ [])) (tab-zeros n) ∙ replicate-append-replicate {A = ℕ} n 1 0 ∙ ap (λ (k : ℕ). replicate k 0) (add-one n)
+tab-zeros n = tab-is n (λ k. 0) (replicate n 0) (length-replicate n 0) (λ k h. sym (getD-replicate n k 0 0 h))
 
 -- the list of f at each number below a + b, in two parts
 pub tab-append : (a b : ℕ) (f : ℕ → ℕ) → tab (a + b) f ≡ tab a f ++ tab b (λ (j : ℕ). f (a + j))

@@ -133,17 +133,6 @@ module _ (n : ℕ) (e x f : ℕ → ℕ) where
             (weigh-le n e x (λ i. 0) (λ i. 1) f (λ i l. omega (arith, h i l))),
       )
 
--- two weighted sums together against two others
-pub weigh-cross : (n : ℕ) (e f g h k : ℕ → ℕ) → ((i : ℕ) → i < n → f i + g i ≡ h i + k i)
-    → weighted n e f + weighted n e g ≡ weighted n e h + weighted n e k
-unfolding weighted
-weigh-cross zero e f g h k x = refl
-weigh-cross (suc n) e f g h k x =
-    omega (arith, ap (λ (y : ℕ). y * e n) (weigh-cross n e f g h k (λ i l. x i (omega arith))), ap (λ (y : ℕ). prodTo n e * y) (x n (omega arith)))
-
-pub weighted-eq : (n : ℕ) (e f g : ℕ → ℕ) → ((i : ℕ) → i < n → f i ≡ g i) → weighted n e f ≡ weighted n e g
-weighted-eq n e f g h = omega (arith, weigh-cross n e f (λ i. 0) g (λ i. 0) (λ i l. omega (arith, h i l)))
-
 pub sum-eq : (n : ℕ) (f g : ℕ → ℕ) → ((i : ℕ) → i < n → f i ≡ g i) → sumTo n f ≡ sumTo n g
 sum-eq n f g h = le-antisymm (sum-le n f g (λ i l. le-of-eq (h i l))) (sum-le n g f (λ i l. le-of-eq (sym (h i l))))
 

@@ -11,6 +11,7 @@ use lib.Dec.{eqb, leb}
 use borrow.Author.Tests.{leb-true}
 use Rattle.numbers.specs.Choice.{unless, every}
 use Rattle.numbers.proofs.Every.{and-left, and-right, every-at}
+use Rattle.numbers.proofs.Lists.{each-getD}
 use Rattle.numbers.proofs.Refusals.{firstOf-none, unless-none}
 use Rattle.block.specs.Block.{blockRefusal}
 use Rattle.block.proofs.Sealed.{accepted-check}
@@ -41,7 +42,7 @@ module _ (fields : List ℕ) (fit : fieldsFit fields ≡ true) where
   shares-le = leb-true (firstDrawShareIn fields + fountainShareIn fields) 100 (and-right (saturationFits fields) (sharesFit fields) rules)
 
   -- a field in a range of places whose limits are at most v, a test that is computed
-  range-le : (v from n : ℕ) → every (λ (place : ℕ). leb (at limits place) v) from n ≡ true → from + n ≤ 94
+  pub range-le : (v from n : ℕ) → every (λ (place : ℕ). leb (at limits place) v) from n ≡ true → from + n ≤ 94
       → (place : ℕ) → from ≤ place → place < from + n → at fields place ≤ v
   range-le v from n e room place a b =
       le-trans (field-le place (omega arith))
@@ -54,15 +55,17 @@ module _ (fields : List ℕ) (fit : fieldsFit fields ≡ true) where
   -- five percentages that stand singly, from k on
   percentage-le : (k : ℕ) → every (λ (place : ℕ). leb (at limits place) 100) (70 + k) 5 ≡ true → k + 4 < 24 → (medium : ℕ) → medium < 5
       → getD (percentagesFrom fields k) medium 0 ≤ 100
-  percentage-le k e room medium h = rw (percentage-at medium h) (range-le 100 (70 + k) 5 e (omega arith) (70 + (k + medium)) (omega arith) (omega arith))
-    where
-      percentage-at : (medium : ℕ) → medium < 5 → getD (percentagesFrom fields k) medium 0 ≡ single fields (k + medium)
-      percentage-at zero l = ap (λ (n : ℕ). single fields n) (omega arith)
-      percentage-at (suc zero) l = refl
-      percentage-at (suc (suc zero)) l = refl
-      percentage-at (suc (suc (suc zero))) l = refl
-      percentage-at (suc (suc (suc (suc zero)))) l = refl
-      percentage-at (suc (suc (suc (suc (suc m))))) l = absurd (omega arith)
+  percentage-le k e room medium h =
+      let within : (place : ℕ) → k ≤ place → place < k + 5 → single fields place ≤ 100 =
+      λ place a b. range-le 100 (70 + k) 5 e (omega arith) (70 + place) (omega arith) (omega arith) in
+      each-getD (λ p. p ≤ 100) (omega arith) (percentagesFrom fields k) (
+        within k (omega arith) (omega arith),
+        (
+          within (k + 1) (omega arith) (omega arith),
+          (within (k + 2) (omega arith) (omega arith), (within (k + 3) (omega arith) (omega arith), (within (k + 4) (omega arith) (omega arith), tt))),
+        ),
+      )
+      medium
 
 -- what a scenario whose fields fit says for an age
 pub exposure-within : (s : Scenario) → fieldsFit (s .fields) ≡ true → (age : ℕ) → age ≤ 6 → ExposureLimits (exposureAt s age)

@@ -1,18 +1,21 @@
 -- The site reader's ways out, in their order.
 -- Assumes nothing.
-use mathlib.Core.Path.{_≡_, refl}
-use mathlib.Core.Bool.{true, false}
+use mathlib.Core.Path.{_≡_, refl, sym, ap, _∙_}
+use mathlib.Core.Bool.{Bool, true, false}
 use mathlib.Core.List.{List}
 use Prim.Native.Nat.{ℕ, zero, suc}
 use lib.ListN.{length}
 use native.Mathlib.Omega.{arith}
 use borrow.Author.Tests.{eq-eqb, ne-eqb}
-use Rattle.numbers.proofs.Refusals.{orElse-first}
+use Rattle.numbers.specs.Choice.{unless}
+use Rattle.numbers.proofs.Refusals.{orElse-first, orElse-last}
 use Rattle.block.specs.Block.{blockRefusal}
 use Rattle.site.specs.declared.DustSource.the-variants.{MultipleSource}
 use Rattle.site.specs.declared.WaterSource.the-variants.{ThreeSources}
+use Rattle.site.specs.declared.Scenario.{Scenario}
+use Rattle.site.specs.declared.SiteRead.{SiteRead}
 use Rattle.site.specs.Fields.{fieldsFit}
-use Rattle.site.specs.Scenario.{dustSourceOf, waterSourceOf}
+use Rattle.site.specs.Scenario.{dustSourceOf, waterSourceOf, scenarioOf}
 use Rattle.site.specs.Site.{siteFields, siteRefusal, refusedWith, accepted, readSite}
 
 -- a mode that is not 0 is the second source
@@ -24,7 +27,7 @@ pub water-other : (mode : ℕ) → (mode ≡ 0 → ⊥) → ThreeSources ≡ wat
 water-other zero h = absurd (h refl)
 water-other (suc n) h = refl
 
--- what a refusal answers, and none
+-- what is answered, by what the code reads on its way
 module _ (site : List ℕ) where
   refused-read : (r : ℕ) → siteRefusal site ≡ r → (r ≡ 0 → ⊥) → refusedWith r ≡ readSite site
   unfolding readSite
@@ -35,20 +38,26 @@ module _ (site : List ℕ) where
   unfolding siteRefusal
   read-length h = refused-read 1 (rw (ne-eqb (length site) 512 h)) (λ e. omega arith)
 
-  module _ (long : length site ≡ 512) where
-    pub read-block : (r : ℕ) → r ≡ blockRefusal site 0 1 380 → (r ≡ 0 → ⊥) → refusedWith r ≡ readSite site
+  module _ (long : length site ≡ 512) {r : ℕ} (refusal : r ≡ blockRefusal site 0 1 380) where
+    pub read-block : (r ≡ 0 → ⊥) → refusedWith r ≡ readSite site
     unfolding siteRefusal
-    read-block r e h = refused-read r (rw (eq-eqb (length site) 512 long, ← e) (orElse-first r _ h)) h
+    read-block h = refused-read r (rw (eq-eqb (length site) 512 long, ← refusal) (orElse-first r _ h)) h
 
-    module _ (block : blockRefusal site 0 1 380 ≡ 0) where
-      pub read-unfit : fieldsFit (siteFields site) ≡ false → refusedWith 7 ≡ readSite site
+    module _ (passed : r ≡ 0) {fields : List ℕ} (read : fields ≡ siteFields site) {fit : Bool} (tested : fit ≡ fieldsFit fields) where
+      refusal-by-fit : siteRefusal site ≡ unless fit 7
       unfolding siteRefusal
-      read-unfit e = refused-read 7 (rw (eq-eqb (length site) 512 long, block, e)) (λ e. omega arith)
+      refusal-by-fit =
+          let fits : fieldsFit (siteFields site) ≡ fit = ap fieldsFit (sym read) ∙ sym tested in
+          rw (eq-eqb (length site) 512 long, sym refusal ∙ passed, fits) (orElse-last (unless fit 7))
 
-      pub no-refusal : fieldsFit (siteFields site) ≡ true → siteRefusal site ≡ 0
-      unfolding siteRefusal
-      no-refusal e = rw (eq-eqb (length site) 512 long, block, e)
+      pub read-unfit : fit ≡ false → refusedWith 7 ≡ readSite site
+      read-unfit e = refused-read 7 (refusal-by-fit ∙ rw e) (λ e. omega arith)
 
-      pub read-fit : fieldsFit (siteFields site) ≡ true → accepted (siteFields site) ≡ readSite site
+      pub read-fit : fit ≡ true → accepted (siteFields site) ≡ readSite site
       unfolding readSite
-      read-fit e = rw (no-refusal e)
+      read-fit e = rw (refusal-by-fit, e)
+
+      pub read-scenario : fit ≡ true → {scenario : Scenario} → scenario ≡ scenarioOf fields
+          → _≡_ {A = SiteRead} (record { refusal = 0; scenario = scenario }) (readSite site)
+      unfolding accepted
+      read-scenario e made = ap (λ (s : Scenario). record { refusal = 0; scenario = s }) (made ∙ ap scenarioOf read) ∙ read-fit e

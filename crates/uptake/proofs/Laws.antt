@@ -2,26 +2,39 @@
 -- Assumes nothing.
 use mathlib.Core.Path.{_≡_, refl}
 use mathlib.Core.Bool.{Bool, true, false, _&&_}
-use Prim.Native.Nat.{ℕ, zero, suc, _+_, _-_, _*_, _≤_, _<_}
+use Prim.Native.Nat.{ℕ, _+_, _-_, _*_, _≤_, _<_}
 use native.Mathlib.Nat.{le-trans, mul-le-mul, mul-le-mul-right, div-le-of-le-mul, le-div-iff-mul-le}
 use native.Mathlib.Omega.{arith}
 use borrow.Author.Tests.{le-leb, leb-true}
 use Rattle.numbers.specs.Choice.{unless}
 use Rattle.numbers.specs.Sums.{sumTo}
 use Rattle.numbers.proofs.Every.{and-true, and-left, and-right}
+use Rattle.numbers.proofs.Lists.{each-getD}
 use Rattle.numbers.proofs.Refusals.{unless-none}
 use Rattle.numbers.proofs.Sums.{sum-le}
+use Rattle.site.specs.declared.DustSource.{DustSource}
 use Rattle.site.specs.declared.Exposure.{Exposure}
+use Rattle.site.specs.declared.WaterSource.{WaterSource}
 use Rattle.site.specs.Fields.{at}
 use Rattle.site.specs.Limits.{ExposureLimits}
 use Rattle.uptake.specs.Age.{ageOf}
-use Rattle.uptake.specs.Intake.{airIntake, waterIntake, soilIntake, dustIntake, intakesOf, intakeOf, passes, refusalOf, intakeRefusal}
+use Rattle.uptake.specs.Intake.{airIntake, waterIntakeBy, waterIntake, dustConcentrationBy, dustConcentration, soilIntake, dustIntake, intakesOf, intakeOf, passes, refusalOf, intakeRefusal}
 use Rattle.uptake.specs.Uptake.{percentOf, saturationOf, absorbable, absorbableTotal, passiveUptake, activePart, activeUptake, mediumUptake, airUptake, dayUptake}
 use Rattle.uptake.specs.Laws.{Weights, AgeLaw, Passed, RefusalLaw, SaturationLaw, EatenLaw, AirLaw, DayLaw}
 
 pub age-law : AgeLaw
 unfolding ageOf
 age-law month h = omega arith
+
+-- ---- intakes by their source
+
+pub dust-by-source : (e : Exposure) {source : DustSource} → e .«dust_source» ≡ source → dustConcentrationBy source e ≡ dustConcentration e
+unfolding dustConcentration
+dust-by-source e told = rw told
+
+pub water-by-source : (e : Exposure) {source : WaterSource} → e .«water_source» ≡ source → waterIntakeBy source e ≡ waterIntake e
+unfolding waterIntake
+water-by-source e told = rw told
 
 -- ---- refusal 9
 
@@ -116,15 +129,6 @@ pub air-law : (e : Exposure) → AirLaw e
 unfolding airUptake
 air-law e lim = percent-most (e .«air_absorption») (airIntake e) (lim .absorption)
 
--- what holds of each of the five media
-pub five : (P : ℕ → Type 0) → P 0 → P 1 → P 2 → P 3 → P 4 → (medium : ℕ) → medium < 5 → P medium
-five P a b c d e zero l = a
-five P a b c d e (suc zero) l = b
-five P a b c d e (suc (suc zero)) l = c
-five P a b c d e (suc (suc (suc zero))) l = d
-five P a b c d e (suc (suc (suc (suc zero)))) l = e
-five P a b c d e (suc (suc (suc (suc (suc i))))) l = absurd (omega arith)
-
 -- an accepted exposure's numbers
 module _ {e : Exposure} (lim : ExposureLimits e) (accepted : intakeRefusal e ≡ 0) where
   pub air-most : airIntake e ≤ 1_000_000_000
@@ -132,9 +136,10 @@ module _ {e : Exposure} (lim : ExposureLimits e) (accepted : intakeRefusal e ≡
 
   pub intake-most : (medium : ℕ) → medium < 5 → intakeOf e medium ≤ 1_000_000_000
   unfolding intakesOf
-  intake-most =
+  intake-most medium l =
       let passed = refusal-law e .passed accepted in
-      five (λ medium. intakeOf e medium ≤ 1_000_000_000) (lim .diet) (passed .water) (passed .dust) (passed .soil) (lim .alternate)
+      each-getD (λ x. x ≤ 1_000_000_000) (omega arith) (intakesOf e .eaten)
+      (lim .diet, (passed .water, (passed .dust, (passed .soil, (lim .alternate, tt))))) medium
 
   pub absorbable-most : (medium : ℕ) → medium < 5 → absorbable e medium ≤ 1_000_000_000
   absorbable-most medium l = le-trans (eaten-law e 0 0 lim medium l .absorbed) (intake-most medium l)

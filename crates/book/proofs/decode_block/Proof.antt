@@ -1,8 +1,11 @@
 -- `book::decode_block` meets its contract: refused by its header, or its numbers placed and its rows tested.
 -- Assumes nothing.
-use mathlib.Core.Path.{sym, _∙_}
+use mathlib.Core.Path.{_≡_, sym, _∙_}
+use mathlib.Core.Bool.{Bool}
 use denote.Ref.{now}
-use Rattle.book.proofs.Decode.{refused-by-header, checked-rows}
+use Rattle.numbers.specs.Choice.{unless}
+use Rattle.book.specs.Ready.{BlockDecoded}
+use Rattle.book.proofs.Decode.{stored, refused-by-header, checked-rows}
 use borrow.Author.Needs.{needs}
 use Rattle.book.proofs.decode_block.Statement.{statement}
 use Rattle.book.proofs.decode_block.Tie as tie
@@ -61,29 +64,29 @@ mul-rows-fit c = search needs
 rows-fit-requires : tie.Need-rows-fit-requires
 rows-fit-requires c κs = search needs
 
+-- the numbers stored, by what the test of their rows answered
+rows-tested : {fit : Bool} (c : tie.After-rows-fit) → c .rows-fit .result ≡ fit →
+    let read = c .before .before .before .before in
+    let a = read .before .before .before .before .before .before .before .args in
+    BlockDecoded (now (a .book)) (a .n) (now (a .table)) (stored (a .n) (read .read-fields .last .1 .0) (now (a .table))) (unless fit 8)
+rows-tested c answered =
+    let read = c .before .before .before .before in
+    let header = read .before .before .before in
+    let start = header .before .before .before .before in
+    checked-rows _ (start .args .n) _ (start .pre .1 .0) (start .pre .1 .1) (sym (header .block-refusal .ensures) ∙ read .before .before .if1 .left) _
+    (read .read-fields .ensures) (sym (c .rows-fit .ensures) ∙ answered)
+
 same-length : tie.Need-same-length
 same-length c = search needs
 
 returns-2 : tie.Need-returns-2
-returns-2 c =
-    let read = c .before .before .before .before .before in
-    let header = read .before .before .before in
-    let start = header .before .before .before .before in
-    checked-rows (now (start .args .book)) (start .args .n) (now (start .args .table)) (start .pre .1 .0) (start .pre .1 .1)
-    (sym (header .block-refusal .ensures) ∙ read .before .before .if1 .left) (read .read-fields .last .1 .0) (read .read-fields .ensures)
-    (sym (c .before .rows-fit .ensures) ∙ c .if2 .taken)
+returns-2 c = rows-tested (c .before) (c .if2 .taken)
 
 same-length-2 : tie.Need-same-length-2
 same-length-2 c = search needs
 
 returns-3 : tie.Need-returns-3
-returns-3 c =
-    let read = c .before .before .before .before .before in
-    let header = read .before .before .before in
-    let start = header .before .before .before .before in
-    checked-rows (now (start .args .book)) (start .args .n) (now (start .args .table)) (start .pre .1 .0) (start .pre .1 .1)
-    (sym (header .block-refusal .ensures) ∙ read .before .before .if1 .left) (read .read-fields .last .1 .0) (read .read-fields .ensures)
-    (sym (c .before .rows-fit .ensures) ∙ c .if2 .left)
+returns-3 c = rows-tested (c .before) (c .if2 .left)
 
 pub decode-block-spec : {M : Type 1} → statement M
 decode-block-spec =

@@ -1,11 +1,10 @@
 -- `book::read_book` meets its contract: each way out is one case of `bookRefusal` and `bookTable`.
 -- Assumes nothing.
-use mathlib.Core.Path.{_≡_, sym, ap, _∙_}
-use Prim.Native.Nat.{ℕ}
-use lib.ListN.{length, replicate}
+use mathlib.Core.Path.{_≡_}
+use lib.ListN.{length}
 use borrow.Author.Needs.{needs}
 use denote.Ref.{now}
-use Rattle.book.proofs.Answers.{refused-length, blank-length, refused-block, blank-block, accepted-table}
+use Rattle.book.proofs.Answers.{refused-length, refused-block, accepted-book}
 use Rattle.book.proofs.read_book.Statement.{statement}
 use Rattle.book.proofs.read_book.Tie as tie
 
@@ -18,9 +17,7 @@ blank-requires c κs = search needs
 
 returns : tie.Need-returns
 returns c =
-    let book = now (c .before .before .before .before .args .book) in
-    let short = c .before .before .if1 .taken in
-    (refused-length book short, blank-length book short _ (c .blank .ensures ∙ ap (λ (n : ℕ). replicate n 0) (full (c .before))))
+    refused-length (now (c .before .before .before .before .args .book)) (c .before .before .if1 .taken) (full (c .before)) (c .blank .ensures)
 
 decode-blocks-requires : tie.Need-decode-blocks-requires
 decode-blocks-requires c κs = search needs
@@ -31,16 +28,13 @@ blank-requires-2 c κs = search needs
 returns-2 : tie.Need-returns-2
 returns-2 c =
     let d = c .before .before .before in
-    let book = now (d .before .before .before .before .args .book) in
-    let long = d .before .before .if1 .left in
-    (refused-block book long _ _ (d .decode-blocks .ensures), blank-block book long _ _ (d .decode-blocks .ensures) (c .before .before .if2 .taken) _ (c .blank2 .ensures ∙ ap (λ (n : ℕ). replicate n 0) (d .decode-blocks .ensures .long)))
+    refused-block (now (d .before .before .before .before .args .book)) (d .before .before .if1 .left) (d .decode-blocks .ensures) (c .before .before .if2 .taken)
+    (c .blank2 .ensures)
 
 returns-3 : tie.Need-returns-3
 returns-3 c =
     let d = c .before in
-    let book = now (d .before .before .before .before .args .book) in
-    let long = d .before .before .if1 .left in
-    (sym (c .if2 .left) ∙ refused-block book long _ _ (d .decode-blocks .ensures), accepted-table book long _ _ (d .decode-blocks .ensures) (c .if2 .left))
+    accepted-book (now (d .before .before .before .before .args .book)) (d .before .before .if1 .left) (d .decode-blocks .ensures) (c .if2 .left)
 
 pub read-book-spec : {M : Type 1} → statement M
 read-book-spec =

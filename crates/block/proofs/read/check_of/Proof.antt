@@ -2,29 +2,21 @@
 -- Assumes nothing.
 use Rattle.block.proofs.read.check_of.Statement.{statement}
 use Rattle.block.proofs.read.check_of.Tie as tie
-use mathlib.Core.Path.{_≡_, sym, _∙_, ap, ap₂}
+use mathlib.Core.Path.{ap}
 use Prim.Native.Nat.{ℕ, _+_, _*_, _-_, _≤_}
 use native.Mathlib.Omega.{arith}
-use mathlib.Core.List.{List}
-use Rattle.numbers.specs.Sums.{sumTo}
-use Rattle.numbers.proofs.Sums.{sum-next}
-use Rattle.block.specs.Block.{wordAt, checkOf}
-use Rattle.block.proofs.Laws.{word-part-le}
-use denote.Ref.{now}
-
--- a word times its position
-abbrev weighed : List ℕ → ℕ → ℕ
-weighed s n = wordAt s (2 * n) * (n + 1)
+use Rattle.numbers.proofs.Loops.{Summed, summed-none, summed-next, summed-all}
+use Rattle.block.specs.Block.{checkOf}
+use Rattle.block.proofs.Laws.{weighed, word-part-le}
 
 abbrev Inv-loop : tie.InvT-loop
-Inv-loop s sum₀ n₀ sum n = (n ≤ 254) × (sum ≡ sumTo n (weighed s)) × (sum ≤ 16645890 * n)
+Inv-loop s sum₀ n₀ sum n = Summed (weighed s) 254 16645890 0 sum n
 
 abbrev μ-loop : tie.MeasureT-loop
 μ-loop s sum₀ n₀ sum n = 254 - n
 
 loop-holds : tie.Need-loop-holds Inv-loop μ-loop
-unfolding sumTo
-loop-holds c = omega arith
+loop-holds c = summed-none _ _ _ _
 
 cast-word-at : tie.Need-cast-word-at Inv-loop μ-loop
 cast-word-at c = omega arith
@@ -38,11 +30,15 @@ word-at-requires c κs = tt
 add-sum : tie.Need-add-sum Inv-loop μ-loop
 add-sum c = omega arith
 
+-- the part that a turn adds
+part-le : (c : tie.After-word-at Inv-loop μ-loop) → c .word-at .result * (c .before .before .loop .n + 1) ≤ 16645890
+part-le c = word-part-le (c .word-at .ensures .1) (c .before .loop-test .taken)
+
 mul-sum : tie.Need-mul-sum Inv-loop μ-loop
-mul-sum c = omega (arith, word-part-le (c .word-at .ensures .1) (c .before .loop-test .taken))
+mul-sum c = omega (arith, part-le c)
 
 add-sum-2 : tie.Need-add-sum-2 Inv-loop μ-loop
-add-sum-2 c = omega (arith, word-part-le (c .word-at .ensures .1) (c .before .loop-test .taken))
+add-sum-2 c = omega (arith, part-le c)
 
 add-n : tie.Need-add-n Inv-loop μ-loop
 add-n c = omega arith
@@ -53,18 +49,11 @@ loop-less c = omega arith
 loop-again : tie.Need-loop-again Inv-loop μ-loop
 loop-again c =
     let l = c .before .before .loop in
-    let s = now (c .before .before .before .before .args .s) in (
-      omega arith,
-      ap₂ (λ (a w : ℕ). a + w * (l .n + 1)) (l .inv .1) (c .word-at .ensures .0) ∙ sym (sum-next (l .n) (weighed s)),
-      omega (arith, word-part-le (c .word-at .ensures .1) (c .before .loop-test .taken)),
-    )
+    summed-next (l .inv) (c .before .loop-test .taken) (ap (λ (w : ℕ). w * (l .n + 1)) (c .word-at .ensures .0)) (part-le c)
 
 returns : tie.Need-returns Inv-loop μ-loop
 unfolding checkOf
-returns c =
-    let l = c .before .loop in
-    let e : l .n ≡ 254 = omega arith in
-    l .inv .1 ∙ ap (λ (n : ℕ). sumTo n (weighed (now (c .before .before .before .args .s)))) e
+returns c = omega (arith, summed-all (c .before .loop .inv) (c .loop-test .left))
 
 pub check-of-spec : {M : Type 1} → statement M
 check-of-spec =

@@ -1,6 +1,6 @@
 -- `book::limits::returns_fit` meets its contract: what is left to look at answers as the whole does.
 -- Assumes nothing.
-use mathlib.Core.Path.{_≡_, refl, sym, _∙_}
+use mathlib.Core.Path.{_≡_, refl}
 use Prim.Native.Nat.{_+_, _-_, _≤_, _<_}
 use native.Mathlib.Omega.{arith}
 use borrow.Author.Needs.{needs}
@@ -39,7 +39,7 @@ returns c =
     let l = c .before .before .before .loop in
     let rates = c .before .before .before .before .before .args .rates in
     let over : unit < back rates (l .i) + exit rates (l .i) = rw (c .before .exit-of .ensures .0) at (c .if1 .taken) in
-    sym (every-stop (returnFits rates) (l .i) 6 (c .before .before .loop-test .taken) (lt-leb _ _ over)) ∙ l .inv
+    every-stop (returnFits rates) (l .i) 6 (l .inv) (c .before .before .loop-test .taken) (lt-leb _ _ over)
 
 add-i : tie.Need-add-i Inv-loop μ-loop
 add-i c = search needs
@@ -52,12 +52,10 @@ loop-again c =
     let l = c .before .before .before .loop in
     let rates = c .before .before .before .before .before .args .rates in
     let within : back rates (l .i) + exit rates (l .i) ≤ unit = rw (c .before .exit-of .ensures .0) at (c .if1 .left) in
-    sym (every-next (returnFits rates) (l .i) 6 (c .before .before .loop-test .taken) (le-leb _ _ within)) ∙ l .inv
+    every-next (returnFits rates) (l .i) 6 (l .inv) (c .before .before .loop-test .taken) (le-leb _ _ within)
 
 returns-2 : tie.Need-returns-2 Inv-loop μ-loop
-returns-2 c =
-    let l = c .before .loop in
-    sym (every-done (returnFits (c .before .before .before .args .rates)) (l .i) 6 (c .loop-test .left)) ∙ l .inv
+returns-2 c = every-done _ (c .before .loop .i) 6 (c .before .loop .inv) (c .loop-test .left)
 
 pub returns-fit-spec : {M : Type 1} → statement M
 returns-fit-spec =

@@ -1,25 +1,19 @@
 -- `book::limits::rows_fit` meets its contract: what is left to look at answers as the five rows do.
 -- Assumes nothing.
 use mathlib.Core.Path.{_≡_, sym, ap, _∙_}
-use mathlib.Core.Bool.{Bool}
-use mathlib.Core.List.{List}
-use Prim.Native.Nat.{ℕ, _+_, _-_, _≤_}
+use Prim.Native.Nat.{_+_, _-_, _≤_}
 use native.Mathlib.Omega.{arith}
 use borrow.Author.Needs.{needs}
 use denote.Ref.{now}
 use Rattle.numbers.specs.Choice.{every}
 use Rattle.numbers.proofs.Every.{every-next, every-stop, every-done}
-use Rattle.book.specs.Row.{rowOf, rowFits, rowsFit}
-use Rattle.book.proofs.Tests.{row-rates32}
+use Rattle.book.specs.Row.{rowFits, rowsFit}
+use Rattle.book.proofs.Tests.{monthFits, row-rates32}
 use Rattle.book.proofs.limits.rows_fit.Statement.{statement}
 use Rattle.book.proofs.limits.rows_fit.Tie as tie
 
--- the row of a month is within its limits
-abbrev fits : List ℕ → ℕ → Bool
-fits table month = rowFits (rowOf table month)
-
 abbrev Inv-loop : tie.InvT-loop
-Inv-loop table first end month₀ month = (first ≤ month) × (every (fits table) month (end - month) ≡ rowsFit table first)
+Inv-loop table first end month₀ month = (first ≤ month) × (every (monthFits table) month (end - month) ≡ rowsFit table first)
 
 abbrev μ-loop : tie.MeasureT-loop
 μ-loop table first end month₀ month = end - month
@@ -49,27 +43,20 @@ loop-less c = search needs
 
 loop-again : tie.Need-loop-again Inv-loop μ-loop
 loop-again c =
-    let l = c .before .before .before .before in
-    let a = l .before .before .args in (
+    let l = c .before .before .before .before .loop in (
       omega arith,
-      sym (every-next (fits (now (a .table))) (l .loop .month) (a .first + 5) (c .before .before .before .loop-test .taken)
-          (ap rowFits (sym (c .before .before .row-at .ensures)) ∙ sym (c .before .row-fits .ensures) ∙ c .if1 .taken))
-          ∙ l .loop .inv .1,
+      every-next _ (l .month) _ (l .inv .1) (c .before .before .before .loop-test .taken)
+          (ap rowFits (sym (c .before .before .row-at .ensures)) ∙ sym (c .before .row-fits .ensures) ∙ c .if1 .taken),
     )
 
 returns : tie.Need-returns Inv-loop μ-loop
 returns c =
-    let l = c .before .before .before .before in
-    let a = l .before .before .args in
-    sym (every-stop (fits (now (a .table))) (l .loop .month) (a .first + 5) (c .before .before .before .loop-test .taken)
-    (ap rowFits (sym (c .before .before .row-at .ensures)) ∙ sym (c .before .row-fits .ensures) ∙ c .if1 .left))
-    ∙ l .loop .inv .1
+    let l = c .before .before .before .before .loop in
+    every-stop _ (l .month) _ (l .inv .1) (c .before .before .before .loop-test .taken)
+    (ap rowFits (sym (c .before .before .row-at .ensures)) ∙ sym (c .before .row-fits .ensures) ∙ c .if1 .left)
 
 returns-2 : tie.Need-returns-2 Inv-loop μ-loop
-returns-2 c =
-    let l = c .before in
-    let a = l .before .before .args in
-    sym (every-done (fits (now (a .table))) (l .loop .month) (a .first + 5) (c .loop-test .left)) ∙ l .loop .inv .1
+returns-2 c = every-done _ (c .before .loop .month) _ (c .before .loop .inv .1) (c .loop-test .left)
 
 pub rows-fit-spec : {M : Type 1} → statement M
 rows-fit-spec =

@@ -1,23 +1,17 @@
 -- `book::table::row_numbers` meets its contract: the numbers copied so far are the row's first.
 -- Assumes nothing.
-use mathlib.Core.Path.{_≡_, refl, _∙_}
-use mathlib.Core.List.{List}
-use Prim.Native.Nat.{ℕ, _+_, _-_, _*_, _≤_}
+use mathlib.Core.Path.{refl}
+use Prim.Native.Nat.{_+_, _-_, _*_}
 use native.Mathlib.Omega.{arith}
-use lib.ListN.{length, getD, take, length-set}
+use lib.ListN.{getD}
 use borrow.Author.Needs.{needs}
-use denote.Ref.{now}
-use Rattle.numbers.specs.Choice.{tab}
-use Rattle.numbers.proofs.Every.{tab-store, tab-whole}
+use Rattle.numbers.proofs.Loops.{Filled, filled-none, filled-next, filled-all}
 use Rattle.book.specs.Row.{rowNumbers}
 use Rattle.book.proofs.table.row_numbers.Statement.{statement}
 use Rattle.book.proofs.table.row_numbers.Tie as tie
 
-abbrev number : List ℕ → ℕ → ℕ → ℕ
-number table month k = getD table (23 * month + k) 0
-
 abbrev Inv-loop : tie.InvT-loop
-Inv-loop table month first numbers₀ k₀ numbers k = (k ≤ 23) × (length numbers ≡ 23) × (take k numbers ≡ tab k (number table month))
+Inv-loop table month first numbers₀ k₀ numbers k = Filled (λ k. getD table (23 * month + k) 0) 23 numbers k
 
 abbrev μ-loop : tie.MeasureT-loop
 μ-loop table month first numbers₀ k₀ numbers k = 23 - k
@@ -26,8 +20,7 @@ mul-first : tie.Need-mul-first Inv-loop μ-loop
 mul-first c = search needs
 
 loop-holds : tie.Need-loop-holds Inv-loop μ-loop
-unfolding tab
-loop-holds c = (omega arith, refl, refl)
+loop-holds c = filled-none _ _ refl
 
 add-number : tie.Need-add-number Inv-loop μ-loop
 add-number c = search needs
@@ -56,21 +49,11 @@ loop-less : tie.Need-loop-less Inv-loop μ-loop
 loop-less c = search needs
 
 loop-again : tie.Need-loop-again Inv-loop μ-loop
-loop-again c =
-    let l = c .before .before in
-    let a = l .before .args in (
-      omega arith,
-      length-set (l .loop .numbers) (l .loop .k) _ ∙ l .loop .inv .1,
-      tab-store (number (now (a .table)) (a .month)) (l .loop .numbers) (l .loop .k) _ (omega arith) (l .loop .inv .2) refl,
-    )
+loop-again c = filled-next (c .before .before .loop .inv) (c .before .loop-test .taken) refl
 
 returns : tie.Need-returns Inv-loop μ-loop
 unfolding rowNumbers
-returns c =
-    let l = c .before in
-    let a = l .before .args in
-    let e : l .loop .k ≡ 23 = omega arith in
-    tab-whole (number (now (a .table)) (a .month)) (l .loop .numbers) 23 (l .loop .inv .1) (rw e at (l .loop .inv .2))
+returns c = filled-all (c .before .loop .inv) (c .loop-test .left)
 
 pub row-numbers-spec : {M : Type 1} → statement M
 row-numbers-spec =
