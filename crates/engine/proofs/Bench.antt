@@ -1,9 +1,12 @@
 -- The bench figures, by computing the definitions.
 -- Assumes nothing.
 use mathlib.Core.Path.{refl}
+use Rattle.numbers.specs.Choice.{every}
 use Rattle.numbers.specs.Sums.{sumTo}
 use Rattle.block.specs.Block.{wordAt, checkOf}
 use Rattle.block.specs.Writer.{le16, layout, bodyOf}
+use Rattle.site.specs.Fields.{limits, withinLimits, fieldsFit}
+use Rattle.book.specs.Row.{volumesFit, weightsFit, returnsFit, ratesFit, rowFits}
 use Rattle.uptake.specs.Age.{ageOf}
 use Rattle.uptake.specs.Intake.{airIntake, mixedWater, waterIntake, soilIntake, dustConcentration, dustIntake, intakesOf}
 use Rattle.uptake.specs.Uptake.{percentOf, saturationOf, absorbable, absorbableTotal, passiveUptake, activePart, activeUptake, mediumUptake}
@@ -12,7 +15,7 @@ use Rattle.kinetics.specs.Step.{compartmentDivisor, returned, retained, inflow,
 use Rattle.kinetics.specs.Birth.{birthBlood, birthOrgan, birthLead}
 use Rattle.kinetics.specs.Blood.{ecfVolume, plasmaPart, bloodOf}
 use Rattle.engine.specs.Steps.{sharesFrom}
-use Rattle.engine.specs.Bench.{benchExposure, benchRates, benchRow, BenchFigures}
+use Rattle.engine.specs.Bench.{benchExposure, benchRates, benchRow, BenchFigures, WithinLimits}
 
 pub bench-figures : BenchFigures
 unfolding benchExposure benchRates benchRow sumTo wordAt checkOf le16 layout bodyOf sharesFrom
@@ -35,3 +38,7 @@ bench-figures =
       check = refl;
       ages = refl;
     }
+
+pub within-limits : WithinLimits
+unfolding benchRates benchRow every sumTo limits withinLimits fieldsFit volumesFit weightsFit returnsFit ratesFit rowFits
+within-limits = record { fields = refl; row = refl }
