@@ -119,9 +119,7 @@ fn card(tape: &mut Tape) -> (Vec<u8>, Vec<u8>) {
         }
     };
     let mut dice = Dice::new(tape.word().into());
-    let (fields, rows) = (random::site_fields(&mut dice, temper), random::rows(&mut dice, temper));
-    let faults: Vec<_> = (0..tape.index(4)).map(|_| random::fault(&mut dice)).collect();
-    random::damaged(&mut dice, &fields, &rows, &faults)
+    random::card(&mut dice, temper, tape.index(4))
 }
 
 /// An empty child, a true state, one at a burden, or any.
