@@ -1,18 +1,20 @@
 //! The engine beside the plain Rust program of `fast.rs`, in one run, as ratios.
 //!
 //! The two take turns in small lots; each line gives the median lot of both and the
-//! median of the lot-by-lot ratios, engine over Rust.
+//! median of the lot-by-lot ratios, engine over Rust. A step is too short to be called
+//! alone: it is what a month call takes beyond the reading, over the month's steps.
 
 use jurengate_model::cards::{curves, published};
+use jurengate_model::kinetics::{DAY_STEPS, MONTH_DAYS};
 use jurengate_model::state::{State, MONTHS};
 use jurengate_model::{fast, ffi};
 use std::hint::black_box;
 use std::time::{Duration, Instant};
 
 /// Lots per line.
-const LOTS: usize = 31;
-/// About how long a lot of the quick side lasts.
-const LOT_TIME: Duration = Duration::from_millis(20);
+const LOTS: usize = 301;
+/// About how long a lot of the quick side lasts: so short that both sides of a pair meet the same disturbances.
+const LOT_TIME: Duration = Duration::from_millis(2);
 
 /// Seconds that `times` calls take.
 fn lot(times: u32, work: &mut dyn FnMut()) -> f64 {
@@ -37,16 +39,37 @@ fn median(mut values: Vec<f64>) -> f64 {
     values[values.len() / 2]
 }
 
+/// Prints a line from pairs of engine and Rust times.
+fn print_line(what: &str, unit: &str, pairs: &[(f64, f64)]) {
+    let engine_time = median(pairs.iter().map(|pair| pair.0).collect());
+    let rust_time = median(pairs.iter().map(|pair| pair.1).collect());
+    let ratio = median(pairs.iter().map(|pair| pair.0 / pair.1).collect());
+    println!("{what}: engine {engine_time:.1} {unit}, Rust {rust_time:.1} {unit}, ratio {ratio:.2}");
+}
+
 /// Times both sides by turns and prints a line.
 fn compare(what: &str, engine: &mut dyn FnMut(), rust: &mut dyn FnMut()) {
     let times = lot_size(rust);
     lot(times, engine);
-    let lots: Vec<(f64, f64)> = (0..LOTS).map(|_| (lot(times, engine), lot(times, rust))).collect();
-    let micros = |seconds: f64| 1e6 * seconds / f64::from(times);
-    let engine_time = micros(median(lots.iter().map(|pair| pair.0).collect()));
-    let rust_time = micros(median(lots.iter().map(|pair| pair.1).collect()));
-    let ratio = median(lots.iter().map(|pair| pair.0 / pair.1).collect());
-    println!("{what}: engine {engine_time:.1} µs, Rust {rust_time:.1} µs, ratio {ratio:.2}");
+    let micros = |work: &mut dyn FnMut()| 1e6 * lot(times, work) / f64::from(times);
+    let pairs: Vec<_> = (0..LOTS).map(|_| (micros(engine), micros(rust))).collect();
+    print_line(what, "µs", &pairs);
+}
+
+/// A month call from a state.
+type MonthCall<'a> = dyn FnMut(&State) + 'a;
+
+/// Times a step of both sides by turns: month calls that step less month calls that only read.
+fn compare_steps(engine: &mut MonthCall, rust: &mut MonthCall, stepping: &State, reading: &State) {
+    let times = lot_size(&mut || rust(stepping));
+    lot(times, &mut || engine(stepping));
+    let steps = f64::from(times) * (MONTH_DAYS * DAY_STEPS) as f64;
+    let nanos = |work: &mut MonthCall| {
+        let (whole, read) = (lot(times, &mut || work(stepping)), lot(times, &mut || work(reading)));
+        1e9 * (whole - read) / steps
+    };
+    let pairs: Vec<_> = (0..LOTS).map(|_| (nanos(engine), nanos(rust))).collect();
+    print_line("one step", "ns", &pairs);
 }
 
 /// Birth, then months up to 24: a state in the middle of a run.
@@ -72,22 +95,13 @@ fn main() {
             black_box(fast::run(black_box(&site), black_box(&book), &mut rust_list));
         },
     );
-    compare(
-        "one month call",
-        &mut || {
-            black_box(ffi::month(black_box(&site), black_box(&book), &middle));
-        },
-        &mut || {
-            black_box(fast::month(black_box(&site), black_box(&book), &middle));
-        },
-    );
-    compare(
-        "reading both files",
-        &mut || {
-            black_box(ffi::month(black_box(&site), black_box(&book), &last));
-        },
-        &mut || {
-            black_box(fast::month(black_box(&site), black_box(&book), &last));
-        },
-    );
+    let mut engine_month = |state: &State| {
+        black_box(ffi::month(black_box(&site), black_box(&book), state));
+    };
+    let mut rust_month = |state: &State| {
+        black_box(fast::month(black_box(&site), black_box(&book), state));
+    };
+    compare("one month call", &mut || engine_month(&middle), &mut || rust_month(&middle));
+    compare("reading both files", &mut || engine_month(&last), &mut || rust_month(&last));
+    compare_steps(&mut engine_month, &mut rust_month, &middle, &last);
 }
