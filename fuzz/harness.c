@@ -8,6 +8,7 @@
 #include <sys/mman.h>
 
 #include "case.h"
+#include "engine_code.h"
 #include "jurengate.h"
 
 enum memory { SITE, BOOK, STATE, LIST, FIGURE, MEMORIES };
@@ -40,7 +41,7 @@ static const uint32_t answerable[CALLS] = {
 
 static uint64_t met[CALLS][NUMBERS];
 
-/* The engine's object code is not instrumented; what it answers guides the fuzzer instead. */
+/* What the engine answers guides the fuzzer too. */
 __attribute__((section("__libfuzzer_extra_counters"))) static uint8_t seen[CALLS][NUMBERS][MONTHS + 1];
 
 struct calls {
@@ -139,6 +140,7 @@ static void print_counts(void) {
         printf("\n");
     }
     printf("%llu calls compared\n", (unsigned long long)calls);
+    print_engine_code();
 }
 
 int LLVMFuzzerInitialize(int *argc, char ***argv) {
@@ -152,6 +154,7 @@ int LLVMFuzzerInitialize(int *argc, char ***argv) {
         }
         lent[which].open = pages + PAGE;
     }
+    watch_engine_code();
     atexit(print_counts);
     return 0;
 }
