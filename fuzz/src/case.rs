@@ -11,8 +11,6 @@ use jurengate_model::state::{State, MONTHS};
 const SITE_ROOM: usize = 2 * BLOCK_BYTES;
 /// Longest book that is lent.
 const BOOK_ROOM: usize = 19 * BLOCK_BYTES;
-/// Longest list or writer's target that is lent.
-const LIST_ROOM: usize = 1_024;
 /// From this first byte on, the bytes of an input stand for themselves.
 const RAW_FROM: u8 = 0xF0;
 /// Edits that one input may make.
@@ -38,19 +36,18 @@ const CALLS: [Call; 16] = {
     ]
 };
 
+macro_rules! sample {
+    ($name:literal) => {
+        (
+            include_bytes!(concat!("../../samples/", $name, "/site.lkb")),
+            include_bytes!(concat!("../../samples/", $name, "/book.lkb")),
+        )
+    };
+}
+
 /// The sample cards.
-const SAMPLES: [(&[u8], &[u8]); 4] = [
-    (include_bytes!("../../samples/default/site.lkb"), include_bytes!("../../samples/default/book.lkb")),
-    (include_bytes!("../../samples/heavy/site.lkb"), include_bytes!("../../samples/heavy/book.lkb")),
-    (
-        include_bytes!("../../samples/refused-intake/site.lkb"),
-        include_bytes!("../../samples/refused-intake/book.lkb"),
-    ),
-    (
-        include_bytes!("../../samples/refused-burden/site.lkb"),
-        include_bytes!("../../samples/refused-burden/book.lkb"),
-    ),
-];
+const SAMPLES: [(&[u8], &[u8]); 4] =
+    [sample!("default"), sample!("heavy"), sample!("refused-intake"), sample!("refused-burden")];
 
 /// What a call is made on.
 pub struct Case {
@@ -157,7 +154,7 @@ fn lend(case: Case, call: Call, lent: &mut LentCase) {
     let list_due = if call == Call::WriteBlock { BLOCK_BYTES } else { MONTHS };
     lent.site_len = copy(site, &mut lent.site);
     lent.book_len = copy(&case.book, &mut lent.book);
-    lent.list_len = list_due.saturating_add_signed(case.list_off.into()).min(LIST_ROOM);
+    lent.list_len = list_due.saturating_add_signed(case.list_off.into());
     lent.state = case.state.to_numbers();
 }
 
