@@ -1,8 +1,8 @@
 //! The engine beside the plain Rust program of `fast.rs`, in one run, as ratios.
 //!
-//! The two take turns in small lots; each line gives the median lot of both and the
-//! median of the lot-by-lot ratios, engine over Rust. A step is too short to be called
-//! alone: it is what a month call takes beyond the reading, over the month's steps.
+//! The two take turns in many small lots; each line gives the fastest lot of both, the
+//! one that nothing disturbed, and their ratio, engine over Rust. A step is too short to be
+//! called alone: it is what a month call takes beyond the reading, over the month's steps.
 
 use jurengate_model::cards::{curves, published};
 use jurengate_model::kinetics::{DAY_STEPS, MONTH_DAYS};
@@ -12,9 +12,9 @@ use std::hint::black_box;
 use std::time::{Duration, Instant};
 
 /// Lots per line.
-const LOTS: usize = 301;
-/// About how long a lot of the quick side lasts: so short that both sides of a pair meet the same disturbances.
-const LOT_TIME: Duration = Duration::from_millis(2);
+const LOTS: usize = 1_000;
+/// About how long a lot lasts: shorter than what a busy machine leaves undisturbed.
+const LOT_TIME: Duration = Duration::from_millis(1);
 
 /// Seconds that `times` calls take.
 fn lot(times: u32, work: &mut dyn FnMut()) -> f64 {
@@ -34,42 +34,36 @@ fn lot_size(work: &mut dyn FnMut()) -> u32 {
     times
 }
 
-fn median(mut values: Vec<f64>) -> f64 {
-    values.sort_by(f64::total_cmp);
-    values[values.len() / 2]
+/// Seconds that a call takes in the fastest lot of each work, all by turns and of one size.
+fn fastest<const N: usize>(mut works: [&mut dyn FnMut(); N]) -> [f64; N] {
+    let times = works.iter_mut().map(|work| lot_size(work)).max().unwrap_or(1);
+    let mut fastest = [f64::INFINITY; N];
+    for _ in 0..LOTS {
+        for (least, work) in fastest.iter_mut().zip(&mut works) {
+            *least = least.min(lot(times, work));
+        }
+    }
+    fastest.map(|seconds| seconds / f64::from(times))
 }
 
-/// Prints a line from pairs of engine and Rust times.
-fn print_line(what: &str, unit: &str, pairs: &[(f64, f64)]) {
-    let engine_time = median(pairs.iter().map(|pair| pair.0).collect());
-    let rust_time = median(pairs.iter().map(|pair| pair.1).collect());
-    let ratio = median(pairs.iter().map(|pair| pair.0 / pair.1).collect());
-    println!("{what}: engine {engine_time:.1} {unit}, Rust {rust_time:.1} {unit}, ratio {ratio:.2}");
-}
-
-/// Times both sides by turns and prints a line.
+/// Times both sides and prints a line.
 fn compare(what: &str, engine: &mut dyn FnMut(), rust: &mut dyn FnMut()) {
-    let times = lot_size(rust);
-    lot(times, engine);
-    let micros = |work: &mut dyn FnMut()| 1e6 * lot(times, work) / f64::from(times);
-    let pairs: Vec<_> = (0..LOTS).map(|_| (micros(engine), micros(rust))).collect();
-    print_line(what, "µs", &pairs);
+    let [engine, rust] = fastest([engine, rust]).map(|seconds| 1e6 * seconds);
+    println!("{what}: engine {engine:.2} µs, Rust {rust:.2} µs, ratio {:.2}", engine / rust);
 }
 
 /// A month call from a state.
-type MonthCall<'a> = dyn FnMut(&State) + 'a;
+type MonthCall<'a> = dyn Fn(&State) + 'a;
 
-/// Times a step of both sides by turns: month calls that step less month calls that only read.
-fn compare_steps(engine: &mut MonthCall, rust: &mut MonthCall, stepping: &State, reading: &State) {
-    let times = lot_size(&mut || rust(stepping));
-    lot(times, &mut || engine(stepping));
-    let steps = f64::from(times) * (MONTH_DAYS * DAY_STEPS) as f64;
-    let nanos = |work: &mut MonthCall| {
-        let (whole, read) = (lot(times, &mut || work(stepping)), lot(times, &mut || work(reading)));
-        1e9 * (whole - read) / steps
-    };
-    let pairs: Vec<_> = (0..LOTS).map(|_| (nanos(engine), nanos(rust))).collect();
-    print_line("one step", "ns", &pairs);
+/// Times a step of both sides: month calls that step less month calls that only read.
+fn compare_steps(engine: &MonthCall, rust: &MonthCall, stepping: &State, reading: &State) {
+    let mut works = [(engine, stepping), (engine, reading), (rust, stepping), (rust, reading)]
+        .map(|(call, state)| move || call(state));
+    let [engine, engine_reads, rust, rust_reads] =
+        fastest(works.each_mut().map(|work| work as &mut dyn FnMut()));
+    let steps = (MONTH_DAYS * DAY_STEPS) as f64;
+    let [engine, rust] = [engine - engine_reads, rust - rust_reads].map(|seconds| 1e9 * seconds / steps);
+    println!("one step: engine {engine:.1} ns, Rust {rust:.1} ns, ratio {:.2}", engine / rust);
 }
 
 /// Birth, then months up to 24: a state in the middle of a run.
@@ -95,13 +89,13 @@ fn main() {
             black_box(fast::run(black_box(&site), black_box(&book), &mut rust_list));
         },
     );
-    let mut engine_month = |state: &State| {
+    let engine_month = |state: &State| {
         black_box(ffi::month(black_box(&site), black_box(&book), state));
     };
-    let mut rust_month = |state: &State| {
+    let rust_month = |state: &State| {
         black_box(fast::month(black_box(&site), black_box(&book), state));
     };
     compare("one month call", &mut || engine_month(&middle), &mut || rust_month(&middle));
     compare("reading both files", &mut || engine_month(&last), &mut || rust_month(&last));
-    compare_steps(&mut engine_month, &mut rust_month, &middle, &last);
+    compare_steps(&engine_month, &rust_month, &middle, &last);
 }
