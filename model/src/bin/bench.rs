@@ -1,18 +1,20 @@
 //! The engine beside the plain Rust program of `fast.rs`, in one run, as ratios.
 //!
-//! The two take turns in small lots; each line gives the median lot of both and the
-//! median of the lot-by-lot ratios, engine over Rust.
+//! The two take turns in many small lots; each line gives the fastest lot of both, the
+//! one that nothing disturbed, and their ratio, engine over Rust. A step is too short to be
+//! called alone: it is what a month call takes beyond the reading, over the month's steps.
 
 use jurengate_model::cards::{curves, published};
+use jurengate_model::kinetics::{DAY_STEPS, MONTH_DAYS};
 use jurengate_model::state::{State, MONTHS};
 use jurengate_model::{fast, ffi};
 use std::hint::black_box;
 use std::time::{Duration, Instant};
 
 /// Lots per line.
-const LOTS: usize = 31;
-/// About how long a lot of the quick side lasts.
-const LOT_TIME: Duration = Duration::from_millis(20);
+const LOTS: usize = 1_000;
+/// About how long a lot lasts: shorter than what a busy machine leaves undisturbed.
+const LOT_TIME: Duration = Duration::from_millis(1);
 
 /// Seconds that `times` calls take.
 fn lot(times: u32, work: &mut dyn FnMut()) -> f64 {
@@ -32,21 +34,36 @@ fn lot_size(work: &mut dyn FnMut()) -> u32 {
     times
 }
 
-fn median(mut values: Vec<f64>) -> f64 {
-    values.sort_by(f64::total_cmp);
-    values[values.len() / 2]
+/// Seconds that a call takes in the fastest lot of each work, all by turns and of one size.
+fn fastest<const N: usize>(mut works: [&mut dyn FnMut(); N]) -> [f64; N] {
+    let times = works.iter_mut().map(|work| lot_size(work)).max().unwrap_or(1);
+    let mut fastest = [f64::INFINITY; N];
+    for _ in 0..LOTS {
+        for (least, work) in fastest.iter_mut().zip(&mut works) {
+            *least = least.min(lot(times, work));
+        }
+    }
+    fastest.map(|seconds| seconds / f64::from(times))
 }
 
-/// Times both sides by turns and prints a line.
+/// Times both sides and prints a line.
 fn compare(what: &str, engine: &mut dyn FnMut(), rust: &mut dyn FnMut()) {
-    let times = lot_size(rust);
-    lot(times, engine);
-    let lots: Vec<(f64, f64)> = (0..LOTS).map(|_| (lot(times, engine), lot(times, rust))).collect();
-    let micros = |seconds: f64| 1e6 * seconds / f64::from(times);
-    let engine_time = micros(median(lots.iter().map(|pair| pair.0).collect()));
-    let rust_time = micros(median(lots.iter().map(|pair| pair.1).collect()));
-    let ratio = median(lots.iter().map(|pair| pair.0 / pair.1).collect());
-    println!("{what}: engine {engine_time:.1} µs, Rust {rust_time:.1} µs, ratio {ratio:.2}");
+    let [engine, rust] = fastest([engine, rust]).map(|seconds| 1e6 * seconds);
+    println!("{what}: engine {engine:.2} µs, Rust {rust:.2} µs, ratio {:.2}", engine / rust);
+}
+
+/// A month call from a state.
+type MonthCall<'a> = dyn Fn(&State) + 'a;
+
+/// Times a step of both sides: month calls that step less month calls that only read.
+fn compare_steps(engine: &MonthCall, rust: &MonthCall, stepping: &State, reading: &State) {
+    let mut works = [(engine, stepping), (engine, reading), (rust, stepping), (rust, reading)]
+        .map(|(call, state)| move || call(state));
+    let [engine, engine_reads, rust, rust_reads] =
+        fastest(works.each_mut().map(|work| work as &mut dyn FnMut()));
+    let steps = (MONTH_DAYS * DAY_STEPS) as f64;
+    let [engine, rust] = [engine - engine_reads, rust - rust_reads].map(|seconds| 1e9 * seconds / steps);
+    println!("one step: engine {engine:.1} ns, Rust {rust:.1} ns, ratio {:.2}", engine / rust);
 }
 
 /// Birth, then months up to 24: a state in the middle of a run.
@@ -72,22 +89,13 @@ fn main() {
             black_box(fast::run(black_box(&site), black_box(&book), &mut rust_list));
         },
     );
-    compare(
-        "one month call",
-        &mut || {
-            black_box(ffi::month(black_box(&site), black_box(&book), &middle));
-        },
-        &mut || {
-            black_box(fast::month(black_box(&site), black_box(&book), &middle));
-        },
-    );
-    compare(
-        "reading both files",
-        &mut || {
-            black_box(ffi::month(black_box(&site), black_box(&book), &last));
-        },
-        &mut || {
-            black_box(fast::month(black_box(&site), black_box(&book), &last));
-        },
-    );
+    let engine_month = |state: &State| {
+        black_box(ffi::month(black_box(&site), black_box(&book), state));
+    };
+    let rust_month = |state: &State| {
+        black_box(fast::month(black_box(&site), black_box(&book), state));
+    };
+    compare("one month call", &mut || engine_month(&middle), &mut || rust_month(&middle));
+    compare("reading both files", &mut || engine_month(&last), &mut || rust_month(&last));
+    compare_steps(&engine_month, &rust_month, &middle, &last);
 }

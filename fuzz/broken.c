@@ -1,0 +1,76 @@
+/* Broken stand-ins for the self-check: linked with --wrap, each call goes through here, and the variable FAULT says what is done wrong.
+ * Each fault shows on few inputs only; the harness must find every one. */
+#include <stdlib.h>
+
+#include "case.h"
+
+/* Like the engine's own object code, these give the fuzzer no coverage to go by. */
+#pragma clang attribute push(__attribute__((no_sanitize("coverage"))), apply_to = function)
+
+uint32_t __real_jurengate_read_site(const uint8_t *, size_t, uint32_t *);
+uint32_t __real_jurengate_write_block(const uint8_t *, size_t, uint8_t *, size_t);
+uint32_t __real_jurengate_birth(const uint8_t *, size_t, const uint8_t *, size_t, uint64_t *);
+uint32_t __real_jurengate_month(const uint8_t *, size_t, const uint8_t *, size_t, uint64_t *, uint32_t *);
+uint32_t __real_jurengate_run(const uint8_t *, size_t, const uint8_t *, size_t, uint32_t *, size_t, uint64_t *, uint32_t *);
+
+static int fault_is(int fault) {
+    static int asked = -1;
+    if (asked < 0) {
+        const char *text = getenv("FAULT");
+        asked = text == NULL ? 0 : atoi(text);
+    }
+    return asked == fault;
+}
+
+static volatile uint8_t sink;
+
+uint32_t __wrap_jurengate_read_site(const uint8_t *site, size_t site_len, uint32_t *fields) {
+    uint32_t number = __real_jurengate_read_site(site, site_len, fields);
+    if (fault_is(1) && number == 1) {
+        sink = site[site_len]; /* reads one byte past a file of a wrong length */
+    }
+    if (fault_is(2) && number == 7) {
+        fields[93] = 1; /* leaves a field of a refused file */
+    }
+    return number;
+}
+
+uint32_t __wrap_jurengate_write_block(const uint8_t *body, size_t body_len, uint8_t *target, size_t target_len) {
+    uint32_t number = __real_jurengate_write_block(body, body_len, target, target_len);
+    if (fault_is(3) && number == 1 && body_len == 508) {
+        target[target_len] = 0; /* writes one byte past a target of a wrong length */
+    }
+    return number;
+}
+
+uint32_t __wrap_jurengate_birth(const uint8_t *site, size_t site_len, const uint8_t *book, size_t book_len, uint64_t *state) {
+    uint32_t number = __real_jurengate_birth(site, site_len, book, book_len, state);
+    if (fault_is(4) && number == 22) {
+        state[-1] = state[0]; /* writes before the state of a refused birth */
+    }
+    return number;
+}
+
+uint32_t __wrap_jurengate_month(const uint8_t *site, size_t site_len, const uint8_t *book, size_t book_len, uint64_t *state,
+                                uint32_t *blood) {
+    uint64_t month = state[0];
+    uint32_t number = __real_jurengate_month(site, site_len, book, book_len, state, blood);
+    if (fault_is(5) && number == 0 && month == 83) {
+        state[6]++; /* one pg of trabecular lead from nowhere, in the last month alone */
+    }
+    if (fault_is(6) && number == 20 && month == 84) {
+        return 21; /* the order of 20 and 21 */
+    }
+    return number;
+}
+
+uint32_t __wrap_jurengate_run(const uint8_t *site, size_t site_len, const uint8_t *book, size_t book_len, uint32_t *blood,
+                              size_t blood_len, uint64_t *state, uint32_t *months) {
+    uint32_t number = __real_jurengate_run(site, site_len, book, book_len, blood, blood_len, state, months);
+    if (fault_is(7) && number == 9 && *months > 0) {
+        blood[*months] = 0; /* the figure of the refused month */
+    }
+    return number;
+}
+
+#pragma clang attribute pop

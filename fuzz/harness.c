@@ -1,0 +1,182 @@
+/* The engine against the model, one call for each fuzz input.
+ *
+ * Every memory lent to the engine lies flush against a page that nobody may touch, and what is around it is painted. After the
+ * call the number, each lent memory and the paint must be as the model leaves them. */
+#include <stdio.h>
+#include <stdlib.h>
+#include <string.h>
+#include <sys/mman.h>
+
+#include "case.h"
+#include "engine_code.h"
+#include "jurengate.h"
+
+enum memory { SITE, BOOK, STATE, LIST, FIGURE, MEMORIES };
+
+enum { PAGE = 4096, OPEN_BYTES = 3 * PAGE, PAINT = 0xA5, RUBBISH = 0x5A, NUMBERS = 23, MONTHS = 84 };
+
+struct lent {
+    uint8_t *open; /* OPEN_BYTES between two closed pages */
+    uint8_t *at;
+    size_t size;
+    _Alignas(8) uint8_t due[OPEN_BYTES]; /* the model's copy */
+};
+
+static struct lent lent[MEMORIES];
+static uint8_t paint[OPEN_BYTES];
+static struct fuzz_case asked;
+
+static const char *const call_names[CALLS] = {"read_site", "write_block", "birth", "month", "run"};
+static const char *const memory_names[MEMORIES] = {"site", "book", "state", "list", "figure"};
+
+/* The numbers that each call can answer, a bit for each. */
+#define FILE_NUMBERS (1u << 0 | 1u << 1 | 1u << 3 | 1u << 4 | 1u << 5 | 1u << 6 | 1u << 7)
+static const uint32_t answerable[CALLS] = {
+    [READ_SITE] = FILE_NUMBERS,
+    [WRITE_BLOCK] = 1u << 0 | 1u << 1,
+    [BIRTH] = FILE_NUMBERS | 1u << 8 | 1u << 22,
+    [MONTH] = FILE_NUMBERS | 1u << 8 | 1u << 9 | 1u << 20 | 1u << 21 | 1u << 22,
+    [RUN] = FILE_NUMBERS | 1u << 2 | 1u << 8 | 1u << 9 | 1u << 22,
+};
+
+static uint64_t met[CALLS][NUMBERS];
+
+/* What the engine answers guides the fuzzer too. */
+__attribute__((section("__libfuzzer_extra_counters"))) static uint8_t seen[CALLS][NUMBERS][MONTHS + 1];
+
+struct calls {
+    uint32_t (*read_site)(const uint8_t *, size_t, uint32_t *);
+    uint32_t (*write_block)(const uint8_t *, size_t, uint8_t *, size_t);
+    uint32_t (*birth)(const uint8_t *, size_t, const uint8_t *, size_t, uint64_t *);
+    uint32_t (*month)(const uint8_t *, size_t, const uint8_t *, size_t, uint64_t *, uint32_t *);
+    uint32_t (*run)(const uint8_t *, size_t, const uint8_t *, size_t, uint32_t *, size_t, uint64_t *, uint32_t *);
+};
+
+static const struct calls engine = {jurengate_read_site, jurengate_write_block, jurengate_birth, jurengate_month, jurengate_run};
+static const struct calls model = {model_read_site, model_write_block, model_birth, model_month, model_run};
+
+static uint32_t answer(const struct calls *by, uint8_t *const at[MEMORIES]) {
+    const uint8_t *site = at[SITE], *book = at[BOOK];
+    uint64_t *state = (uint64_t *)at[STATE];
+    uint32_t *figure = (uint32_t *)at[FIGURE];
+    switch (asked.call) {
+    case READ_SITE: return by->read_site(site, asked.site_len, (uint32_t *)at[LIST]);
+    case WRITE_BLOCK: return by->write_block(site, asked.site_len, at[LIST], asked.list_len);
+    case BIRTH: return by->birth(site, asked.site_len, book, asked.book_len, state);
+    case MONTH: return by->month(site, asked.site_len, book, asked.book_len, state, figure);
+    case RUN: return by->run(site, asked.site_len, book, asked.book_len, (uint32_t *)at[LIST], asked.list_len, state, figure);
+    }
+    abort();
+}
+
+static size_t list_bytes(void) {
+    switch (asked.call) {
+    case READ_SITE: return SITE_FIELDS * sizeof(uint32_t);
+    case RUN: return asked.list_len * sizeof(uint32_t);
+    default: return asked.list_len;
+    }
+}
+
+/* Lends a memory with this content, or full of rubbish without one. */
+static void lend(enum memory which, const void *content, size_t size) {
+    struct lent *memory = &lent[which];
+    memset(memory->open, PAINT, OPEN_BYTES);
+    memory->size = size;
+    memory->at = asked.sides >> which & 1 ? memory->open : memory->open + OPEN_BYTES - size;
+    if (content != NULL) {
+        memcpy(memory->at, content, size);
+    } else {
+        memset(memory->at, RUBBISH, size);
+    }
+    memcpy(memory->due, memory->at, size);
+}
+
+static void lend_all(void) {
+    lend(SITE, asked.site, asked.site_len);
+    lend(BOOK, asked.book, asked.book_len);
+    lend(STATE, asked.call == MONTH ? asked.state : NULL, sizeof asked.state);
+    lend(LIST, NULL, list_bytes());
+    lend(FIGURE, NULL, sizeof(uint32_t));
+}
+
+static void fail(const char *what, const char *where) {
+    fprintf(stderr, "MISMATCH: %s: %s %s\n", call_names[asked.call], where, what);
+    abort();
+}
+
+static void hold(enum memory which) {
+    const struct lent *memory = &lent[which];
+    size_t before = (size_t)(memory->at - memory->open);
+    size_t after = OPEN_BYTES - before - memory->size;
+    if (memcmp(memory->at, memory->due, memory->size) != 0) {
+        fail("is not as the model leaves it", memory_names[which]);
+    }
+    if (memcmp(memory->open, paint, before) != 0 || memcmp(memory->at + memory->size, paint, after) != 0) {
+        fail("has other bytes around it than before the call", memory_names[which]);
+    }
+}
+
+static void count(uint32_t number) {
+    uint32_t months = 0;
+    if (asked.call == RUN) {
+        memcpy(&months, lent[FIGURE].due, sizeof months);
+    } else if (asked.call == MONTH && number != 20) {
+        months = (uint32_t)asked.state[0] % (MONTHS + 1);
+    }
+    met[asked.call][number]++;
+    seen[asked.call][number][months]++;
+}
+
+static void print_counts(void) {
+    uint64_t calls = 0;
+    for (int call = 0; call < CALLS; call++) {
+        printf("%s:", call_names[call]);
+        for (int number = 0; number < NUMBERS; number++) {
+            calls += met[call][number];
+            if (answerable[call] >> number & 1) {
+                printf(" %d: %llu%s", number, (unsigned long long)met[call][number], met[call][number] ? "" : " NOT MET");
+            }
+        }
+        printf("\n");
+    }
+    printf("%llu calls compared\n", (unsigned long long)calls);
+    print_engine_code();
+}
+
+int LLVMFuzzerInitialize(int *argc, char ***argv) {
+    (void)argc, (void)argv;
+    memset(paint, PAINT, sizeof paint);
+    for (int which = 0; which < MEMORIES; which++) {
+        uint8_t *pages = mmap(NULL, OPEN_BYTES + 2 * PAGE, PROT_NONE, MAP_PRIVATE | MAP_ANONYMOUS, -1, 0);
+        if (pages == MAP_FAILED || mprotect(pages + PAGE, OPEN_BYTES, PROT_READ | PROT_WRITE) != 0) {
+            perror("fuzz: no memory to lend");
+            exit(2);
+        }
+        lent[which].open = pages + PAGE;
+    }
+    watch_engine_code();
+    atexit(print_counts);
+    return 0;
+}
+
+int LLVMFuzzerTestOneInput(const uint8_t *input, size_t size) {
+    fuzz_case_of(input, size, &asked);
+    lend_all();
+    uint8_t *at[MEMORIES], *due[MEMORIES];
+    for (int which = 0; which < MEMORIES; which++) {
+        at[which] = lent[which].at;
+        due[which] = lent[which].due;
+    }
+    uint32_t number = answer(&engine, at);
+    if (number != answer(&model, due)) {
+        fail("is not the model's", "the refusal number");
+    }
+    for (int which = 0; which < MEMORIES; which++) {
+        hold(which);
+    }
+    if (number >= NUMBERS || !(answerable[asked.call] >> number & 1)) {
+        fail("is none that the call can answer", "the refusal number");
+    }
+    count(number);
+    return 0;
+}

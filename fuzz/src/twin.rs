@@ -1,0 +1,87 @@
+//! The model behind the signatures of jurengate.h, each call under the name `model_*`.
+//!
+//! The pointers are those of the header's calls, and must be good for the same memory.
+
+#![allow(clippy::missing_safety_doc)]
+
+use jurengate_model::refusal::number_of;
+use jurengate_model::site::SITE_FIELDS;
+use jurengate_model::state::State;
+use jurengate_model::{block, engine, site};
+use std::slice::{from_raw_parts, from_raw_parts_mut};
+
+/// Eleven numbers of a state.
+type Numbers = [u64; 11];
+
+/// The model's site reader.
+#[no_mangle]
+pub unsafe extern "C" fn model_read_site(
+    site: *const u8,
+    site_len: usize,
+    fields: *mut [u32; SITE_FIELDS],
+) -> u32 {
+    let read = site::read_site(unsafe { from_raw_parts(site, site_len) });
+    unsafe { *fields = read.unwrap_or([0; SITE_FIELDS]) };
+    number_of(&read)
+}
+
+/// The model's block writer.
+#[no_mangle]
+pub unsafe extern "C" fn model_write_block(
+    body: *const u8,
+    body_len: usize,
+    target: *mut u8,
+    target_len: usize,
+) -> u32 {
+    let (body, target) = unsafe { (from_raw_parts(body, body_len), from_raw_parts_mut(target, target_len)) };
+    number_of(&block::write_block(body, target))
+}
+
+/// The model's birth.
+#[no_mangle]
+pub unsafe extern "C" fn model_birth(
+    site: *const u8,
+    site_len: usize,
+    book: *const u8,
+    book_len: usize,
+    state: *mut Numbers,
+) -> u32 {
+    let answer = unsafe { engine::birth(from_raw_parts(site, site_len), from_raw_parts(book, book_len)) };
+    unsafe { *state = answer.state.to_numbers() };
+    answer.number
+}
+
+/// The model's month.
+#[no_mangle]
+pub unsafe extern "C" fn model_month(
+    site: *const u8,
+    site_len: usize,
+    book: *const u8,
+    book_len: usize,
+    state: *mut Numbers,
+    blood: *mut u32,
+) -> u32 {
+    let before = State::from_numbers(unsafe { *state });
+    let answer =
+        unsafe { engine::month(from_raw_parts(site, site_len), from_raw_parts(book, book_len), &before) };
+    unsafe { (*state, *blood) = (answer.state.to_numbers(), answer.blood) };
+    answer.number
+}
+
+/// The model's run.
+#[no_mangle]
+pub unsafe extern "C" fn model_run(
+    site: *const u8,
+    site_len: usize,
+    book: *const u8,
+    book_len: usize,
+    blood: *mut u32,
+    blood_len: usize,
+    state: *mut Numbers,
+    months: *mut u32,
+) -> u32 {
+    let list = unsafe { from_raw_parts_mut(blood, blood_len) };
+    let answer = unsafe { engine::run(from_raw_parts(site, site_len), from_raw_parts(book, book_len), list) };
+    unsafe { (*state, *months) = (answer.state.to_numbers(), answer.months) };
+    answer.number
+}

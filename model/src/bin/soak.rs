@@ -1,0 +1,147 @@
+//! Random cards, whole and damaged, run by the engine and by the model: `soak [RUNS] [SEED]`.
+//!
+//! Each card is run in one call and then lived again month by month; the engine must
+//! give the model's answers both ways, and the same figures and last state both ways.
+//! Every run has a seed of its own, the next run the next one, so that one can be repeated alone.
+
+use jurengate_model::engine::{self, RunAnswer};
+use jurengate_model::ffi;
+use jurengate_model::random::{self, Dice};
+use jurengate_model::state::MONTHS;
+use std::env;
+use std::fmt::Debug;
+use std::process::ExitCode;
+use std::time::Instant;
+
+const RUNS: u64 = 10_000;
+const SEED: u64 = 1;
+
+/// Lent lists are filled with this beforehand.
+const BEFORE: u32 = 0x5EED_5EED;
+
+/// One past the highest refusal number.
+const NUMBERS: usize = 23;
+
+/// What was compared so far.
+#[derive(Default)]
+struct Tally {
+    runs: u64,
+    by_number: [u64; NUMBERS],
+    run_months: u64,
+    births: u64,
+    month_calls: u64,
+}
+
+impl Tally {
+    fn print(&self, started: Instant) {
+        println!("{} runs: {} accepted", self.runs, self.by_number[0]);
+        for (number, runs) in self.by_number.iter().enumerate().skip(1).filter(|(_, runs)| **runs > 0) {
+            println!("  {runs} refused with {number}");
+        }
+        println!("{} months compared in runs", self.run_months);
+        println!("{} births and {} month calls compared", self.births, self.month_calls);
+        println!("no mismatch, {:.0} s", started.elapsed().as_secs_f64());
+    }
+}
+
+/// The answer where it is the one due, else both.
+fn held<T: PartialEq + Debug>(what: &str, answer: T, due: T) -> Result<T, String> {
+    if answer == due {
+        Ok(answer)
+    } else {
+        Err(format!("{what}: {answer:?}, due {due:?}"))
+    }
+}
+
+/// A random card, one in four with up to three faults.
+fn card(dice: &mut Dice) -> (Vec<u8>, Vec<u8>) {
+    let temper = random::temper(dice);
+    let faults = if dice.once_in(4) { 1 + dice.index(3) } else { 0 };
+    random::card(dice, temper, faults)
+}
+
+/// A list's length, mostly the one due.
+fn list_length(dice: &mut Dice) -> usize {
+    if dice.once_in(20) {
+        dice.index(2 * MONTHS)
+    } else {
+        MONTHS
+    }
+}
+
+/// The engine's run held to the model's, the whole lent list too.
+fn run(site: &[u8], book: &[u8], list: &mut [u32]) -> Result<RunAnswer, String> {
+    let mut due = list.to_vec();
+    let answer = held("run", ffi::run(site, book, list), engine::run(site, book, &mut due))?;
+    held("the run's list", list.to_vec(), due)?;
+    Ok(answer)
+}
+
+/// Birth and months up to the first refusal, each call held to the model's, with the
+/// figures put into a list as the run does.
+fn month_by_month(
+    site: &[u8],
+    book: &[u8],
+    list: &mut [u32],
+    tally: &mut Tally,
+) -> Result<RunAnswer, String> {
+    let newborn = held("birth", ffi::birth(site, book), engine::birth(site, book))?;
+    tally.births += 1;
+    let mut done = RunAnswer { number: newborn.number, state: newborn.state, months: 0 };
+    for figure in list {
+        if done.number != 0 {
+            break;
+        }
+        let (lived, due) = (ffi::month(site, book, &done.state), engine::month(site, book, &done.state));
+        let lived = held("month call", lived, due)?;
+        tally.month_calls += 1;
+        (done.number, done.state) = (lived.number, lived.state);
+        if lived.number == 0 {
+            *figure = lived.blood;
+            done.months += 1;
+        }
+    }
+    Ok(done)
+}
+
+/// One card both ways.
+fn soak(seed: u64, tally: &mut Tally) -> Result<(), String> {
+    let mut dice = Dice::new(seed);
+    let (site, book) = card(&mut dice);
+    let mut list = vec![BEFORE; list_length(&mut dice)];
+    let whole = run(&site, &book, &mut list)?;
+    tally.runs += 1;
+    tally.by_number[whole.number as usize] += 1;
+    tally.run_months += u64::from(whole.months);
+    let mut figures = vec![BEFORE; MONTHS];
+    let lived = month_by_month(&site, &book, &mut figures, tally)?;
+    // A list of another length has refused the run before its first month.
+    if list.len() == MONTHS {
+        held("month by month and run", (lived, figures), (whole, list))?;
+    }
+    Ok(())
+}
+
+/// Runs and seed from the command line.
+fn arguments() -> Option<(u64, u64)> {
+    let mut words = env::args().skip(1);
+    let mut next = |default| words.next().map_or(Some(default), |word| word.parse().ok());
+    let asked = (next(RUNS)?, next(SEED)?);
+    words.next().is_none().then_some(asked)
+}
+
+fn main() -> ExitCode {
+    let Some((runs, first)) = arguments() else {
+        eprintln!("usage: soak [RUNS] [SEED]");
+        return ExitCode::from(2);
+    };
+    let (started, mut tally) = (Instant::now(), Tally::default());
+    for seed in (0..runs).map(|run| first.wrapping_add(run)) {
+        if let Err(mismatch) = soak(seed, &mut tally) {
+            eprintln!("mismatch at seed {seed} (repeat it with: soak 1 {seed}): {mismatch}");
+            return ExitCode::FAILURE;
+        }
+    }
+    tally.print(started);
+    ExitCode::SUCCESS
+}
