@@ -15,16 +15,16 @@ use Rattle.block.specs.Block.{byteAt, wordAt, fieldAt, numberAt, edition
 
 -- past the end there are only zeros
 module _ (s : List ℕ) (at : ℕ) (past : length s ≤ at) where
-  byte-end : (k : ℕ) → byteAt s (at + k) ≡ 0
-  byte-end k = List·getD-eq-default s 0 (omega arith)
+  byte-past-end : (k : ℕ) → byteAt s (at + k) ≡ 0
+  byte-past-end k = List·getD-eq-default s 0 (omega arith)
 
-  pub word-end : wordAt s at ≡ 0
+  pub word-past-end : wordAt s at ≡ 0
   unfolding wordAt
-  word-end = omega (arith, List·getD-eq-default s 0 past, byte-end 1)
+  word-past-end = omega (arith, List·getD-eq-default s 0 past, byte-past-end 1)
 
-  pub field-end : fieldAt s at ≡ 0
+  pub field-past-end : fieldAt s at ≡ 0
   unfolding fieldAt
-  field-end = omega (arith, List·getD-eq-default s 0 past, byte-end 1, byte-end 2, byte-end 3)
+  field-past-end = omega (arith, List·getD-eq-default s 0 past, byte-past-end 1, byte-past-end 2, byte-past-end 3)
 
 -- field k of a block
 abbrev pub field : List ℕ → ℕ → ℕ

@@ -43,6 +43,9 @@ pub and-right : (a b : Bool) → a && b ≡ true → b ≡ true
 and-right true b e = e
 and-right false b e = let z : false ≡ true = e in cc
 
+pub and-both : (a b : Bool) → a && b ≡ true → (a ≡ true) × (b ≡ true)
+and-both a b e = (and-left a b e, and-right a b e)
+
 -- it holds where each holds, each holds where it holds, and two tests that agree hold alike
 pub every-of : (f : ℕ → Bool) (i n : ℕ) → ((k : ℕ) → i ≤ k → k < i + n → f k ≡ true) → every f i n ≡ true
 unfolding every

@@ -8,7 +8,7 @@ use native.Mathlib.Omega.{arith}
 use borrow.Author.Tests.{le-leb, leb-true}
 use Rattle.numbers.specs.Choice.{unless}
 use Rattle.numbers.specs.Sums.{sumTo}
-use Rattle.numbers.proofs.Every.{and-true, and-left, and-right}
+use Rattle.numbers.proofs.Every.{and-true, and-both}
 use Rattle.numbers.proofs.Lists.{each-getD}
 use Rattle.numbers.proofs.Refusals.{unless-none}
 use Rattle.numbers.proofs.Sums.{sum-le}
@@ -49,18 +49,10 @@ refusal-is e = refl
 passed-of : (e : Exposure) → allPass e ≡ true → Passed e
 unfolding allPass
 passed-of e t =
-    let a = passes (airIntake e) in
-    let w = passes (waterIntake e) in
-    let s = passes (soilIntake e) in
-    let d = passes (dustIntake e) in
-    let after-air = and-right a (w && (s && d)) t in
-    let after-water = and-right w (s && d) after-air in
-    record {
-      air = leb-true _ _ (and-left a (w && (s && d)) t);
-      water = leb-true _ _ (and-left w (s && d) after-air);
-      soil = leb-true _ _ (and-left s d after-water);
-      dust = leb-true _ _ (and-right s d after-water);
-    }
+    let air = and-both _ _ t in
+    let water = and-both _ _ (air .1) in
+    let soil = and-both _ _ (water .1) in
+    record { air = leb-true _ _ (air .0); water = leb-true _ _ (water .0); soil = leb-true _ _ (soil .0); dust = leb-true _ _ (soil .1) }
 
 all-of : (e : Exposure) → Passed e → allPass e ≡ true
 unfolding allPass
@@ -68,6 +60,7 @@ all-of e p =
     and-true _ _ (le-leb _ _ (p .air))
     (and-true _ _ (le-leb _ _ (p .water)) (and-true _ _ (le-leb _ _ (p .soil)) (le-leb _ _ (p .dust))))
 
+-- a test that does not hold is answered with 9
 nine-of : (t : Bool) → (t ≡ true → ⊥) → unless t 9 ≡ 9
 nine-of true h = absurd (h refl)
 nine-of false h = refl
