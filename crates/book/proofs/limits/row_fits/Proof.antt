@@ -1,4 +1,4 @@
--- `book::limits::row_fits` meets its contract: volumes, weights, rates.
+-- `book::limits::row_fits` meets its contract: the tests of volumes, weights and rates give the row's.
 -- Assumes nothing.
 use mathlib.Core.Path.{_≡_, sym, _∙_}
 use mathlib.Core.Bool.{_&&_}
