@@ -1,7 +1,7 @@
 -- What an accepted book is known to hold: its blocks pass, and its rows are within their limits.
 -- Assumes nothing.
 use mathlib.Core.Path.{_≡_, refl, sym, ap, ap₂, _∙_}
-use mathlib.Core.Bool.{Bool, true, _&&_}
+use mathlib.Core.Bool.{true}
 use mathlib.Core.List.{List, [], _∷_}
 use Prim.Native.Nat.{ℕ, zero, suc, _+_, _*_, _/_, _%_, _≤_, _<_}
 use native.Mathlib.Decide.{decLt}
@@ -11,7 +11,7 @@ use lib.Dec.{eqb, leb}
 use borrow.Author.Tests.{leb-true, ltb-true, eq-eqb}
 use Rattle.numbers.specs.Choice.{unless}
 use Rattle.numbers.specs.Sums.{sumTo}
-use Rattle.numbers.proofs.Every.{and-left, and-right, every-at, getD-tab}
+use Rattle.numbers.proofs.Every.{and-both, every-at, getD-tab}
 use Rattle.numbers.proofs.Refusals.{orElse-none, firstOf-none, unless-none}
 use Rattle.block.specs.Block.{blockRefusal, fieldsOf, blockAt}
 use Rattle.block.proofs.Laws.{field}
@@ -25,10 +25,6 @@ use Rattle.book.specs.Laws.{RowsWithin, RightChecks, WholeBook}
 use Rattle.book.proofs.Tests.{returnFits, monthFits}
 use Rattle.book.proofs.Decode.{numberAt, number-in-block, row-in-block}
 
--- both of two tests that hold together
-both : (a b : Bool) → a && b ≡ true → (a ≡ true) × (b ≡ true)
-both a b e = (and-left a b e, and-right a b e)
-
 -- rates that pass are within their limits
 module _ (r : Rates) (fit : ratesFit r ≡ true) where
   rate-tests :
@@ -37,10 +33,10 @@ module _ (r : Rates) (fit : ratesFit r ≡ true) where
       × ((returnsFit r ≡ true) × ((leb (r .faeces) (unit / 2) ≡ true) × (leb (r .skin) (unit / 2) ≡ true))))
   unfolding ratesFit
   rate-tests =
-      let a = both _ _ fit in
-      let b = both _ _ (a .1) in
-      let c = both (returnsFit r) _ (b .1) in
-      let d = both _ _ (c .1) in
+      let a = and-both _ _ fit in
+      let b = and-both _ _ (a .1) in
+      let c = and-both (returnsFit r) _ (b .1) in
+      let d = and-both _ _ (c .1) in
       (a .0, (b .0, (c .0, d)))
 
   red-cells-ge : 1 ≤ out r 0
@@ -62,22 +58,22 @@ module _ (w : Row) (fit : rowFits w ≡ true) where
   row-tests : (volumesFit w ≡ true) × ((weightsFit w ≡ true) × (ratesFit (w .rates) ≡ true))
   unfolding rowFits
   row-tests =
-      let a = both (volumesFit w) _ fit in
-      (a .0, both (weightsFit w) _ (a .1))
+      let a = and-both (volumesFit w) _ fit in
+      (a .0, and-both (weightsFit w) _ (a .1))
 
   row-limits : RowLimits w
   unfolding volumesFit weightsFit
   row-limits =
       let t = row-tests in
-      let v1 = both _ _ (t .0) in
-      let v2 = both _ _ (v1 .1) in
-      let v3 = both _ _ (v2 .1) in
-      let w1 = both _ _ (t .1 .0) in
-      let w2 = both _ _ (w1 .1) in
-      let w3 = both _ _ (w2 .1) in
-      let w4 = both _ _ (w3 .1) in
-      let w5 = both _ _ (w4 .1) in
-      let w6 = both _ _ (w5 .1) in
+      let v1 = and-both _ _ (t .0) in
+      let v2 = and-both _ _ (v1 .1) in
+      let v3 = and-both _ _ (v2 .1) in
+      let w1 = and-both _ _ (t .1 .0) in
+      let w2 = and-both _ _ (w1 .1) in
+      let w3 = and-both _ _ (w2 .1) in
+      let w4 = and-both _ _ (w3 .1) in
+      let w5 = and-both _ _ (w4 .1) in
+      let w6 = and-both _ _ (w5 .1) in
       record {
         blood-least = leb-true _ _ (v1 .0);
         blood-most = leb-true _ _ (v2 .0);

@@ -2,12 +2,12 @@
 -- Assumes nothing.
 use mathlib.Core.Path.{_≡_, refl, sym, ap, _∙_}
 use mathlib.Core.List.{List}
-use Prim.Native.Nat.{ℕ, zero, suc}
+use Prim.Native.Nat.{ℕ}
 use native.Mathlib.Omega.{arith}
 use lib.ListN.{length, replicate}
 use borrow.Author.Tests.{eq-eqb, ne-eqb}
-use Rattle.numbers.proofs.Refusals.{orElse-last}
-use Rattle.book.specs.Book.{bookRefusal, blankTable, bookTable}
+use Rattle.numbers.proofs.Refusals.{not-zero, orElse-last}
+use Rattle.book.specs.Book.{bookRefusal, blankTable, tableBeside, bookTable}
 use Rattle.book.specs.Ready.{BookDecoded}
 
 module _ (book : List ℕ) where
@@ -15,8 +15,9 @@ module _ (book : List ℕ) where
   refused-blank : (r : ℕ) {size : ℕ} {table : List ℕ} → r ≡ bookRefusal book → (r ≡ 0 → ⊥) → size ≡ 1955 → table ≡ replicate size 0
       → (r ≡ bookRefusal book) × (table ≡ bookTable book)
   unfolding bookTable blankTable
-  refused-blank zero e h full zeros = absurd (h refl)
-  refused-blank (suc r) e h full zeros = (e, zeros ∙ ap (λ (n : ℕ). replicate n 0) full ∙ rw (← e))
+  refused-blank r e h full zeros =
+      let blank : blankTable ≡ tableBeside r book = not-zero (λ n. blankTable ≡ tableBeside n book) (λ n. refl) r h in
+      (e, zeros ∙ ap (λ (n : ℕ). replicate n 0) full ∙ blank ∙ ap (λ (n : ℕ). tableBeside n book) e)
 
   pub refused-length : (length book ≡ 8704 → ⊥) → {size : ℕ} {table : List ℕ} → size ≡ 1955 → table ≡ replicate size 0
       → (1 ≡ bookRefusal book) × (table ≡ bookTable book)

@@ -1,21 +1,53 @@
--- Laws of the row limits' tests.
+-- The tests of a row's limits, and the 32-bit rates that they read.
 -- Assumes nothing.
 use mathlib.Core.Path.{_≡_, refl}
 use mathlib.Core.Bool.{Bool}
 use mathlib.Core.List.{List, [], _∷_}
 use Prim.Native.Nat.{ℕ, zero, suc, _+_, _*_, _<_}
 use native.Mathlib.Omega.{arith}
-use lib.Dec.{leb}
-use lib.ListN.{getD}
-use Rattle.numbers.proofs.Every.{length-tab, getD-tab}
+use lib.Dec.{leb, ltb}
+use lib.ListN.{getD, drop}
+use Rattle.numbers.proofs.Every.{allOf, length-tab, getD-tab}
 use Rattle.numbers.proofs.Lists.{each-getD, getD-below}
 use Rattle.book.specs.declared.Rates.{Rates}
-use Rattle.book.specs.Row.{unit, out, back, exit, rowNumbers, rowOf, rowFits}
+use Rattle.book.specs.declared.Row.{Row}
+use Rattle.book.specs.Row.{unit, out, back, exit, rowNumbers, rowOf, volumesFit, weightsFit, rowFits}
 use Rattle.book.specs.Ready.{Rates32}
 
 -- what compartment i gives back and loses is at most D
 abbrev pub returnFits : Rates → ℕ → Bool
 returnFits r i = leb (back r i + exit r i) unit
+
+-- the tests of the volumes and of the weights, in their order
+abbrev pub volumeTests : Row → List Bool
+volumeTests w =
+    leb 1_000 (w .«blood_volume») ∷ leb (w .«blood_volume») 60_000 ∷ leb 1 (w .«plasma_volume») ∷ ltb (w .«plasma_volume») (w .«blood_volume») ∷ []
+
+abbrev pub weightTests : Row → List Bool
+weightTests w =
+    leb 2_000 (w .«body_weight»)
+    ∷ leb (w .«body_weight») 50_000
+    ∷ leb (w .kidney) 50_000
+    ∷ leb (w .liver) 50_000
+    ∷ leb (w .other) 50_000
+    ∷ leb (w .trabecular) 50_000
+    ∷ leb (w .cortical) 50_000
+    ∷ []
+
+-- the tests of a row that are left after the first k
+abbrev pub VolumesLeft : ℕ → Row → Type 0
+VolumesLeft k w = allOf (drop k (volumeTests w)) ≡ volumesFit w
+
+pub volumes-left : (w : Row) → VolumesLeft 0 w
+unfolding volumesFit
+volumes-left w = refl
+
+abbrev pub WeightsLeft : ℕ → Row → Type 0
+WeightsLeft k w = allOf (drop k (weightTests w)) ≡ weightsFit w
+
+pub weights-left : (w : Row) → WeightsLeft 0 w
+unfolding weightsFit
+weights-left w = refl
 
 -- the row of a month is within its limits
 abbrev pub monthFits : List ℕ → ℕ → Bool

@@ -1,4 +1,4 @@
--- Laws of sums, products and weighted sums over n terms. Each is one induction.
+-- Laws of sums, products and weighted sums over n terms.
 -- Assumes nothing.
 use mathlib.Core.Path.{_≡_, refl, ap, sym, subst, _∙_}
 use Prim.Native.Nat.{ℕ, zero, suc, _+_, _*_, _/_, _∣_, _≤_, _<_}
@@ -116,7 +116,7 @@ module _ (n : ℕ) (e x f : ℕ → ℕ) where
   pub weigh-own : ((i : ℕ) → i < n → e i * x i ≡ f i) → prodTo n e * sumTo n x ≡ weighted n e f
   weigh-own h = le-antisymm (weigh-below (λ i l. le-of-eq (h i l))) (weigh-above (λ i l. le-of-eq (sym (h i l))))
 
-  -- and where each is off by less than its e
+  -- and where each is off by at most its e
   pub weigh-under : ((i : ℕ) → i < n → f i ≤ e i * x i + e i) → weighted n e f ≤ prodTo n e * sumTo n x + n * prodTo n e
   weigh-under h =
       omega (

@@ -1,4 +1,4 @@
--- What an accepted site file is known to hold.
+-- What an accepted site file holds: its fields, and the exposures of its scenario, are within their limits.
 -- Assumes nothing.
 use mathlib.Core.Path.{_≡_, refl, ap, _∙_}
 use mathlib.Core.Bool.{true, _&&_}

@@ -1,8 +1,9 @@
--- `book::limits::row_fits` meets its contract: volumes, weights, rates.
+-- `book::limits::row_fits` meets its contract: the tests of volumes, weights and rates give the row's.
 -- Assumes nothing.
-use mathlib.Core.Path.{sym, _∙_}
+use mathlib.Core.Path.{_≡_, sym, _∙_}
+use mathlib.Core.Bool.{_&&_}
 use borrow.Author.Needs.{needs}
-use Rattle.book.specs.Row.{rowFits}
+use Rattle.book.specs.Row.{weightsFit, ratesFit, rowFits}
 use Rattle.book.proofs.limits.row_fits.Statement.{statement}
 use Rattle.book.proofs.limits.row_fits.Tie as tie
 
@@ -15,20 +16,18 @@ weights-fit-requires c κs = search needs
 rates-fit-requires : tie.Need-rates-fit-requires
 rates-fit-requires c κs = search needs
 
-returns : tie.Need-returns
+-- where the volumes fit, the row fits as the weights and the rates do
+volumes-passed : (c : tie.Then1) → let w = c .before .before .args .row in rowFits w ≡ weightsFit w && ratesFit (w .rates)
 unfolding rowFits
+volumes-passed c = rw (sym (c .before .volumes-fit .ensures) ∙ c .if1 .taken)
+
+returns : tie.Need-returns
 returns c =
     let weights = c .before .before .before in
-    let volumes = weights .before .before in
-    rw (sym (volumes .volumes-fit .ensures) ∙ weights .before .if1 .taken, sym (weights .weights-fit .ensures) ∙ c .before .before .if2 .taken)
-    (c .rates-fit .ensures)
+    sym (volumes-passed (weights .before) ∙ rw (sym (weights .weights-fit .ensures) ∙ c .before .before .if2 .taken) (sym (c .rates-fit .ensures)))
 
 returns-2 : tie.Need-returns-2
-unfolding rowFits
-returns-2 c =
-    let weights = c .before in
-    let volumes = weights .before .before in
-    rw (sym (volumes .volumes-fit .ensures) ∙ weights .before .if1 .taken, sym (weights .weights-fit .ensures) ∙ c .if2 .left)
+returns-2 c = sym (volumes-passed (c .before .before) ∙ rw (sym (c .before .weights-fit .ensures) ∙ c .if2 .left))
 
 returns-3 : tie.Need-returns-3
 unfolding rowFits

@@ -1,4 +1,4 @@
--- `uptake::intake::dust_intake` meets its contract.
+-- `uptake::intake::dust_intake` meets its contract: each product fits, and the concentration is what its call ensures.
 -- Assumes nothing.
 use mathlib.Core.Path.{ap}
 use Prim.Native.Nat.{ℕ, _-_, _*_, _/_}
