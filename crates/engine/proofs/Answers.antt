@@ -2,8 +2,7 @@
 -- Assumes nothing.
 use mathlib.Core.Path.{_≡_, sym, ap, _∙_}
 use mathlib.Core.List.{List}
-use Prim.Native.Nat.{ℕ, zero, _≤_, _<_, min}
-use native.Mathlib.Omega.{arith}
+use Prim.Native.Nat.{ℕ, _≤_, _<_, min}
 use borrow.Author.Tests.{le-leb, lt-leb}
 use Rattle.numbers.proofs.Refusals.{orElse-first, orElse-last}
 use Rattle.site.specs.declared.Scenario.{Scenario}
@@ -18,7 +17,7 @@ use Rattle.engine.specs.Files.{Files, lengthRefusal, filesRefusal}
 use Rattle.engine.specs.State.{zeroState}
 use Rattle.engine.specs.Birth.{newborn, newbornRefusal, birthAnswer}
 use Rattle.engine.specs.Ready.{FilesDone}
-use Rattle.engine.proofs.StateCheck.{cap}
+use Rattle.engine.proofs.StateCheck.{cap, capped-over, capped-within}
 
 -- a refusal says nothing of the scenario and the table
 refused-reading : (f : Files) (table : List ℕ) (scenario : Scenario) (r : ℕ) → r ≡ filesRefusal f → (r ≡ 0 → ⊥) → FilesDone f table (record { refusal = r; scenario = scenario })
@@ -51,22 +50,16 @@ module _ (f : Files) (table : List ℕ) {lengths : ℕ} (el : lengths ≡ length
 
 -- birth from accepted files, by its capped burden
 module _ (scenario : Scenario) (table : List ℕ) (child : State) (born : child ≡ newborn scenario table) {held : ℕ} (eh : held ≡ min (burden (child .lead)) cap) where
-  pub born-refused : burdenLimit < held → (zero : State) → zero ≡ zeroState
-      → _≡_ {A = BirthAnswer} (record { refusal = 22; state = zero }) (birthAnswer (newbornRefusal scenario table) (newborn scenario table))
+  pub born-refused : burdenLimit < held → (a : State) → a ≡ zeroState
+      → _≡_ {A = BirthAnswer} (record { refusal = 22; state = a }) (birthAnswer (newbornRefusal scenario table) (newborn scenario table))
   unfolding newbornRefusal
-  born-refused h none ez =
-      let over : burdenLimit < burden (newborn scenario table .lead) = rw born at (burden-over h) in
+  born-refused h a ez =
+      let over : burdenLimit < burden (newborn scenario table .lead) = rw born at (capped-over (burden (child .lead)) eh h) in
       rw (lt-leb _ _ over, ez)
-    where
-      burden-over : burdenLimit < held → burdenLimit < burden (child .lead)
-      burden-over h = omega arith
 
   pub born-accepted : held ≤ burdenLimit
       → _≡_ {A = BirthAnswer} (record { refusal = 0; state = child }) (birthAnswer (newbornRefusal scenario table) (newborn scenario table))
   unfolding newbornRefusal
   born-accepted h =
-      let within : burden (newborn scenario table .lead) ≤ burdenLimit = rw born at (burden-within h) in
+      let within : burden (newborn scenario table .lead) ≤ burdenLimit = rw born at (capped-within (burden (child .lead)) eh h) in
       rw (le-leb _ _ within, born)
-    where
-      burden-within : held ≤ burdenLimit → burden (child .lead) ≤ burdenLimit
-      burden-within h = omega arith

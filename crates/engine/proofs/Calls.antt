@@ -1,4 +1,4 @@
--- The month's ways out, from the innermost part to the call, and birth's.
+-- What a month answers, from its steps to the call, and what a birth answers.
 -- Assumes nothing.
 use mathlib.Core.Path.{_≡_, refl, sym, ap, _∙_}
 use mathlib.Core.List.{List}
@@ -64,7 +64,7 @@ month-steppable a passed limits prepared daily =
       room = omega (arith, sound .all, passed-before a passed);
     }
 
--- the body weights that the code reads
+-- the body weights that the code reads are within their limits
 pub weights-within : {scenario : Scenario} {table : List ℕ} (d : Decoded scenario table) {m : ℕ} → m ≤ 84 → {row row24 : Row} → row ≡ rowOf table m → row24 ≡ rowOf table 24
     → Weights (row .«body_weight») (row24 .«body_weight»)
 weights-within d {m} h er e24 =
@@ -82,7 +82,7 @@ taken-uptake : (scenario : Scenario) (table : List ℕ) (m : ℕ) {e : Exposure}
 unfolding monthUptake
 taken-uptake scenario table m ee er e24 = rw (ee, er, e24)
 
--- the steps' part
+-- by what its steps came to
 module _ (a : State) (row : Row) (t : ℕ) (x : Reached) (r : ReachedBy (row .rates) a (daysShares 6 t 30) (30 * t) x) where
   pub stepped-refused : (x .refusal ≡ 0 → ⊥) → refusedMonth (x .refusal) a ≡ steppedMonth 6 a row t
   unfolding steppedMonth

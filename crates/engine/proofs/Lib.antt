@@ -1,4 +1,4 @@
--- Reading, the calls' ways out, the loops, and demand 3.
+-- Reading, what the calls answer, the loops, and demand 3.
 pub mod Accepted
 pub mod Answers
 pub mod Bench

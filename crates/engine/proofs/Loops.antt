@@ -72,6 +72,10 @@ module _ (r : Rates) where
         total = λ z. omega (arith, now .all, e);
       }
 
+  -- refused steps say nothing of the state
+  refused-steps : {a : State} {us : List ℕ} {t : ℕ} (x : Reached) → x .refusal ≡ stepsRefusal (λ c. r) a us → (x .refusal ≡ 0 → ⊥) → ReachedBy r a us t x
+  refused-steps x e h = record { refused = e; reached = λ z. absurd (h z); held = λ z. absurd (h z); total = λ z. absurd (h z) }
+
   -- a turn takes the steps vs, which absorb t and come to x
   module _ {a b : State} {us : List ℕ} (vs ws : List ℕ) (now : Ahead a us b (vs ++ ws)) {t : ℕ} {x : Reached} (turn : ReachedBy r b vs t x) where
     turn-refusal : stepsRefusal (λ c. r) a us ≡ orElse (x .refusal) (stepsRefusal (λ c. r) (lastFrom (λ c. r) b vs) ws)
@@ -81,13 +85,7 @@ module _ (r : Rates) where
         ∙ ap (λ (n : ℕ). orElse n (stepsRefusal (λ c. r) (lastFrom (λ c. r) b vs) ws)) (sym (turn .refused))
 
     turn-refused : (x .refusal ≡ 0 → ⊥) → (n : ℕ) → ReachedBy r a us n x
-    turn-refused z n =
-        record {
-          refused = sym (turn-refusal ∙ orElse-first (x .refusal) _ z);
-          reached = λ e. absurd (z e);
-          held = λ e. absurd (z e);
-          total = λ e. absurd (z e);
-        }
+    turn-refused z n = refused-steps x (sym (turn-refusal ∙ orElse-first (x .refusal) _ z)) z
 
     turn-next : sumOf vs ≡ t → x .refusal ≡ 0 → Ahead a us (x .state) ws
     turn-next e z =
@@ -105,13 +103,7 @@ module _ (r : Rates) where
   module _ (b : State) (u : ℕ) where
     step-refused : burdenLimit < burden (b .lead) + u → ReachedBy r b (u ∷ []) u (record { refusal = 22; state = b })
     unfolding stepsRefusal
-    step-refused over =
-        record {
-          refused = rw (lt-leb (burden (b .lead) + u) burdenLimit over);
-          reached = λ z. absurd (omega arith);
-          held = λ z. absurd (omega arith);
-          total = λ z. absurd (omega arith);
-        }
+    step-refused over = refused-steps _ (rw (lt-leb (burden (b .lead) + u) burdenLimit over)) (λ z. omega arith)
 
     step-taken : RateLimits r → burden (b .lead) + u ≤ burdenLimit → ReachedBy r b (u ∷ []) u (record { refusal = 0; state = next r b u })
     unfolding stepsRefusal lastFrom

@@ -1,4 +1,4 @@
--- The loop over a run's months: where it begins, what a turn keeps, what is written when it stops; and the run's ways out.
+-- The loop over a run's months: its start, a month more, its end; and what a run answers, in the order of its refusals.
 -- Assumes nothing.
 use Prim.Native.Nat.{ℕ, zero, suc, _+_, _-_, _≤_, _<_}
 use mathlib.Core.Path.{_≡_, refl, ap, _∙_, sym}
@@ -107,7 +107,7 @@ months-agree call other h (suc n) a =
     ap (λ (m : MonthAnswer). andThen (m .refusal) m (monthsBy call n (m .state))) (h a)
     ∙ ap (andThen (other a .refusal) (other a)) (months-agree call other h n (other a .state))
 
--- the run's ways out, in their order: x is what it answers
+-- what a run answers, in the order of its refusals: x is the answer
 module _ (s : ℕ) (f : Files) (l : List ℕ) where
   run-refused : (r : ℕ) → startRefusal f (length l) ≡ r → (r ≡ 0 → ⊥) → (x : RunAnswer) → x ≡ refusedRun r → Done (runOf s f (length l)) l x l
   unfolding runOf

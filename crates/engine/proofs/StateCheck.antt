@@ -43,6 +43,13 @@ pub capped-ledgers : (a : State) {x : ℕ} → length (a .ledgers) ≡ 3 → x �
 unfolding sumTo
 capped-ledgers a three = capped-list (a .ledgers) three (omega arith)
 
+-- the burden's limit is below the cap, and so tests a capped sum as it tests the sum n
+pub capped-over : (n : ℕ) {held : ℕ} → held ≡ min n cap → burdenLimit < held → burdenLimit < n
+capped-over n e h = omega arith
+
+pub capped-within : (n : ℕ) {held : ℕ} → held ≡ min n cap → held ≤ burdenLimit → n ≤ burdenLimit
+capped-within n e h = omega arith
+
 -- the state's refusals, in their order, by what the code computes
 module _ (a : State) where
   pub refused-month : lastMonth < a .month → 20 ≡ stateRefusal a
@@ -52,11 +59,11 @@ module _ (a : State) where
   module _ (month : a .month ≤ lastMonth) {held : ℕ} (eh : held ≡ min (burden (a .lead)) cap) where
     pub refused-burden : burdenLimit < held → 20 ≡ stateRefusal a
     unfolding stateRefusal isState
-    refused-burden h = rw (le-leb (a .month) lastMonth month, lt-leb (burden (a .lead)) burdenLimit (omega arith))
+    refused-burden h = rw (le-leb (a .month) lastMonth month, lt-leb (burden (a .lead)) burdenLimit (capped-over (burden (a .lead)) eh h))
 
     module _ (within : held ≤ burdenLimit) {left : ℕ} (el : left ≡ min (ledgerSum a) cap) where
       burden-within : burden (a .lead) ≤ burdenLimit
-      burden-within = omega arith
+      burden-within = capped-within (burden (a .lead)) eh within
 
       pub refused-ledgers : burdenLimit + a .month * monthLimit < held + left → 20 ≡ stateRefusal a
       unfolding stateRefusal isState

@@ -1,4 +1,4 @@
--- The compartments one by one.
+-- Each compartment is at most the burden; and a fact about any of the six, from the fact about each.
 -- Assumes nothing.
 use mathlib.Core.List.{List}
 use Prim.Native.Nat.{ℕ, zero, suc, _≤_, _<_}

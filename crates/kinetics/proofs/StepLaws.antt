@@ -1,4 +1,4 @@
--- The laws of a step, gathered: nothing above the step opens it.
+-- The laws of a step, on the seven compartments and on a state.
 -- Assumes nothing.
 use mathlib.Core.Path.{refl}
 use native.Mathlib.Omega.{arith}

@@ -1,4 +1,4 @@
--- `engine::run` meets its contract: each way out before the first month, and the months.
+-- `engine::run` meets its contract: refused before the first month, or the months.
 -- Assumes nothing.
 use mathlib.Core.Path.{sym}
 use borrow.Author.Needs.{needs}

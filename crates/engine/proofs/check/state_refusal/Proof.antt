@@ -1,4 +1,4 @@
--- `engine::check::state_refusal` meets its contract: each way out is one case of `stateRefusal`.
+-- `engine::check::state_refusal` meets its contract: each return is one case of `stateRefusal`.
 -- Assumes nothing.
 use Prim.Native.Nat.{min}
 use mathlib.Core.Path.{_≡_}

@@ -1,4 +1,4 @@
--- `engine::files::length_refusal` meets its contract: each way out is one case of the two lengths.
+-- `engine::files::length_refusal` meets its contract: each return is one case of the two lengths.
 -- Assumes nothing.
 use borrow.Author.Tests.{eq-eqb, ne-eqb}
 use Rattle.engine.proofs.files.length_refusal.Statement.{statement}
