@@ -10,7 +10,7 @@ use borrow.Author.Tests.{lt-ltb, le-ltb}
 use lib.ListN.{length, length-append}
 use Rattle.printout.specs.Printout.{digit, digitsWithin, decimal}
 use Rattle.printout.specs.Text.{Put}
-use Rattle.printout.proofs.Puts.{put-then, put-as, put-end}
+use Rattle.printout.proofs.Puts.{put-then, put-as}
 
 pub digits-one : (k n : ℕ) → n < 10 → digitsWithin (suc k) n ≡ digit n ∷ []
 unfolding digitsWithin
@@ -63,9 +63,9 @@ pub decimal-one : (n : ℕ) → n < 10 → digit n ∷ [] ≡ decimal n
 decimal-one n h = sym (digits-one 9 n h)
 
 -- a number's digits put: its tenth's, and then the last one
-module _ {l m : List ℕ} {i j : ℕ} (room : i + 10 ≤ length l) (n : ℕ) (fits : n < 4_294_967_296) (f : Put l i (decimal (n / 10)) 10 m j) where
+module _ {l m : List ℕ} {i j : ℕ} (n : ℕ) (fits : n < 4_294_967_296) (f : Put l i (decimal (n / 10)) 10 m j) where
   pub last-place : j ≤ i + 9
-  last-place = omega (arith, put-end (omega arith) f, tenth-short n fits)
+  last-place = omega (arith, f .past, tenth-short n fits)
 
   pub put-last : {a : List ℕ} {e : ℕ} → 10 ≤ n → Put m j (digit (n % 10) ∷ []) 1 a e → Put l i (decimal n) 10 a e
   put-last h g = put-as (put-then f g) (sym (decimal-last n fits h)) (omega (arith, last-place, g .small))

@@ -16,7 +16,7 @@ same-length : tie.Need-same-length
 same-length c = search needs
 
 returns : tie.Need-returns
-returns c = put-one (now (c .args .target)) (c .args .place) (c .args .byte) (c .pre)
+returns c = put-one (now (c .args .target)) (c .args .place) (c .args .byte)
 
 pub put-byte-spec : {M : Type 1} → statement M
 put-byte-spec = tie.close (tie.spec slice-write-target add-result same-length returns)

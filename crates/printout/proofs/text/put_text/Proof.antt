@@ -17,7 +17,7 @@ abbrev μ-loop : tie.MeasureT-loop
 μ-loop target₀ place text put₀ target put = length text - put
 
 loop-holds : tie.Need-loop-holds Inv-loop μ-loop
-loop-holds c = (omega arith, text-none (now (c .args .target)) (c .args .place) (now (c .args .text)) (c .pre))
+loop-holds c = (omega arith, text-none (now (c .args .target)) (c .args .place) (now (c .args .text)))
 
 shared-slice-read-target : tie.Need-shared-slice-read-target Inv-loop μ-loop
 shared-slice-read-target c = search needs
@@ -39,7 +39,7 @@ loop-again c =
     let start = c .before .before .before in
     let a = start .args in
     let l = c .before .before .loop in
-    (omega arith, text-next (now (a .target)) (a .place) (now (a .text)) (start .pre) (c .before .loop-test .taken) (l .inv .1))
+    (omega arith, text-next (now (a .target)) (a .place) (now (a .text)) (c .before .loop-test .taken) (l .inv .1))
 
 add-result : tie.Need-add-result Inv-loop μ-loop
 add-result c = search needs
@@ -52,7 +52,7 @@ returns c =
     let start = c .before .before in
     let a = start .args in
     let l = c .before .loop in
-    text-whole (now (a .target)) (a .place) (now (a .text)) (start .pre) (omega arith) (l .inv .1)
+    text-whole (now (a .target)) (a .place) (now (a .text)) (omega arith) (l .inv .1)
 
 pub put-text-spec : {M : Type 1} → statement M
 put-text-spec =
