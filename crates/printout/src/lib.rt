@@ -15,7 +15,7 @@ const MONTHS: usize = 84;
 pub const LINE_BYTES: usize = 36;
 
 // Lines of a printout at most: 84 months and the last line.
-pub const LINES: u32 = 85;
+pub const LINES: u32 = MONTHS as u32 + 1;
 
 // What is kept of a run for its printout.
 pub struct Prepared {
