@@ -12,6 +12,7 @@ use Rattle.printout.specs.Printout.{digit, digitsWithin, decimal}
 use Rattle.printout.specs.Text.{Put}
 use Rattle.printout.proofs.Puts.{put-then, put-as}
 
+-- a number below 10 is one digit; a larger one is the digits of its tenth and the last one
 pub digits-one : (k n : ℕ) → n < 10 → digitsWithin (suc k) n ≡ digit n ∷ []
 unfolding digitsWithin
 digits-one k n h = rw (lt-ltb n 10 h)
@@ -20,6 +21,7 @@ pub digits-last : (k n : ℕ) → 10 ≤ n → digitsWithin (suc k) n ≡ digits
 unfolding digitsWithin
 digits-last k n h = rw (le-ltb n 10 h)
 
+-- k digits at most
 digits-length : (k n : ℕ) → length (digitsWithin k n) ≤ k
 unfolding digitsWithin
 digits-length zero n = omega arith
@@ -31,6 +33,7 @@ digits-length (suc k) n =
           rw (digits-last k n (omega arith)) (omega (arith, length-append (digitsWithin k (n / 10)) (digit (n % 10) ∷ [])))
     ]
 
+-- one digit fewer holds a number's tenth
 pub tenth-below : (k n : ℕ) → n < 10 ^ suc k → n / 10 < 10 ^ k
 tenth-below k n h = div-lt-iff-lt-mul {k = 10} {x = n} {y = 10 ^ k} (omega arith) .1 (rw pow-suc at h)
 
