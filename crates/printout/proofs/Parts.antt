@@ -1,11 +1,11 @@
 -- The parts of a line put one after the other make the line.
 -- Assumes nothing.
-use mathlib.Core.Path.{_≡_, ap}
+use mathlib.Core.Path.{_≡_}
 use Prim.Native.Nat.{ℕ, _/_, _%_}
-use mathlib.Core.List.{List, [], _∷_, _++_}
+use mathlib.Core.List.{List, [], _∷_}
 use Rattle.printout.specs.Printout.{lineFeed, space, point, digit, decimal, tenths, figure, flag, monthLine, refusedText, afterText, refusedLine}
 use Rattle.printout.specs.Text.{Put}
-use Rattle.printout.proofs.Puts.{put-then, put-as}
+use Rattle.printout.proofs.Puts.{put-then}
 
 module _ {l₀ l₁ l₂ l₃ : List ℕ} {e₀ e₁ e₂ e₃ : ℕ} (blood : ℕ) where
   pub put-figure : {n : ℕ} → n ≡ tenths blood
@@ -15,8 +15,7 @@ module _ {l₀ l₁ l₂ l₃ : List ℕ} {e₀ e₁ e₂ e₃ : ℕ} (blood : �
       → Put l₀ e₀ (figure blood) 12 l₃ e₃
   unfolding figure
   put-figure same whole dot decimals =
-      let f = put-then whole (put-then dot decimals) in
-      put-as f (ap (λ (t : ℕ). decimal (t / 10) ++ (point ∷ digit (t % 10) ∷ [])) same) (f .small)
+      rw same at (put-then whole (put-then dot decimals))
 
 module _ {l₀ l₁ l₂ l₃ l₄ l₅ l₆ : List ℕ} {e₀ e₁ e₂ e₃ e₄ e₅ e₆ : ℕ} (month blood : ℕ) where
   pub put-month : {mark : ℕ} → mark ≡ flag blood
@@ -29,8 +28,7 @@ module _ {l₀ l₁ l₂ l₃ l₄ l₅ l₆ : List ℕ} {e₀ e₁ e₂ e₃ e�
       → Put l₀ e₀ (monthLine month blood) 26 l₆ e₆
   unfolding monthLine
   put-month same number gap value gap₂ marked end =
-      let f = put-then number (put-then gap (put-then value (put-then gap₂ (put-then marked end)))) in
-      put-as f (ap (λ (t : ℕ). decimal month ++ (space ∷ (figure blood ++ (space ∷ t ∷ lineFeed ∷ [])))) same) (f .small)
+      rw same at (put-then number (put-then gap (put-then value (put-then gap₂ (put-then marked end)))))
 
 module _ {l₀ l₁ l₂ l₃ l₄ l₅ : List ℕ} {e₀ e₁ e₂ e₃ e₄ e₅ : ℕ} (refusal months : ℕ) where
   pub put-refused : Put l₀ e₀ refusedText 8 l₁ e₁
