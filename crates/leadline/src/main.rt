@@ -7,9 +7,9 @@ use printout::Prepared;
 ghost use Rattle.io.specs.Counts.{Counts};
 
 // What is read of each file: a byte more than its format has, so that a longer file has a wrong length and is not read whole.
-const SITE_READ: usize = 513;
+const SITE_READ: usize = site::SITE_BYTES + 1;
 
-const BOOK_READ: usize = 8_705;
+const BOOK_READ: usize = book::BOOK_BYTES + 1;
 
 // Reads what the buffer holds of a file, and answers how many bytes came.
 fn read_file(path: &[u8], buffer: &mut [u8]) -> usize

@@ -10,8 +10,9 @@ use borrow.Author.Tests.{lt-ltb, le-ltb}
 use lib.ListN.{length, length-append}
 use Rattle.printout.specs.Printout.{digit, digitsWithin, decimal}
 use Rattle.printout.specs.Text.{Put}
-use Rattle.printout.proofs.Puts.{put-then, put-as, put-end}
+use Rattle.printout.proofs.Puts.{put-then, put-as}
 
+-- a number below 10 is one digit; a larger one is the digits of its tenth and the last one
 pub digits-one : (k n : ℕ) → n < 10 → digitsWithin (suc k) n ≡ digit n ∷ []
 unfolding digitsWithin
 digits-one k n h = rw (lt-ltb n 10 h)
@@ -20,6 +21,7 @@ pub digits-last : (k n : ℕ) → 10 ≤ n → digitsWithin (suc k) n ≡ digits
 unfolding digitsWithin
 digits-last k n h = rw (le-ltb n 10 h)
 
+-- k digits at most
 digits-length : (k n : ℕ) → length (digitsWithin k n) ≤ k
 unfolding digitsWithin
 digits-length zero n = omega arith
@@ -31,6 +33,7 @@ digits-length (suc k) n =
           rw (digits-last k n (omega arith)) (omega (arith, length-append (digitsWithin k (n / 10)) (digit (n % 10) ∷ [])))
     ]
 
+-- one digit fewer holds a number's tenth
 pub tenth-below : (k n : ℕ) → n < 10 ^ suc k → n / 10 < 10 ^ k
 tenth-below k n h = div-lt-iff-lt-mul {k = 10} {x = n} {y = 10 ^ k} (omega arith) .1 (rw pow-suc at h)
 
@@ -63,9 +66,9 @@ pub decimal-one : (n : ℕ) → n < 10 → digit n ∷ [] ≡ decimal n
 decimal-one n h = sym (digits-one 9 n h)
 
 -- a number's digits put: its tenth's, and then the last one
-module _ {l m : List ℕ} {i j : ℕ} (room : i + 10 ≤ length l) (n : ℕ) (fits : n < 4_294_967_296) (f : Put l i (decimal (n / 10)) 10 m j) where
+module _ {l m : List ℕ} {i j : ℕ} (n : ℕ) (fits : n < 4_294_967_296) (f : Put l i (decimal (n / 10)) 10 m j) where
   pub last-place : j ≤ i + 9
-  last-place = omega (arith, put-end (omega arith) f, tenth-short n fits)
+  last-place = omega (arith, f .past, tenth-short n fits)
 
   pub put-last : {a : List ℕ} {e : ℕ} → 10 ≤ n → Put m j (digit (n % 10) ∷ []) 1 a e → Put l i (decimal n) 10 a e
   put-last h g = put-as (put-then f g) (sym (decimal-last n fits h)) (omega (arith, last-place, g .small))

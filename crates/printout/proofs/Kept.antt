@@ -15,29 +15,32 @@ use Rattle.engine.specs.Run.{Ran, andThen, monthsBy, startRefusal, afterStart, 
 use Rattle.printout.specs.declared.Prepared.{Prepared}
 use Rattle.printout.specs.Lines.{preparedOf}
 
-then-few : (r : ℕ) (m : MonthAnswer) (x : Ran) (n : ℕ) → length (x .bloods) ≤ n → length (andThen r m x .bloods) ≤ suc n
-then-few zero m x n h = omega arith
-then-few (suc r) m x n h = omega arith
+-- a month before others adds one figure at most
+one-more : (r : ℕ) (m : MonthAnswer) (x : Ran) (n : ℕ) → length (x .bloods) ≤ n → length (andThen r m x .bloods) ≤ suc n
+one-more zero m x n h = omega arith
+one-more (suc r) m x n h = omega arith
 
-months-few : (call : State → MonthAnswer) (n : ℕ) (a : State) → length (monthsBy call n a .bloods) ≤ n
+-- n months have n figures at most
+months-at-most : (call : State → MonthAnswer) (n : ℕ) (a : State) → length (monthsBy call n a .bloods) ≤ n
 unfolding monthsBy
-months-few call zero a = omega arith
-months-few call (suc n) a = then-few (call a .refusal) (call a) (monthsBy call n (call a .state)) n (months-few call n (call a .state))
+months-at-most call zero a = omega arith
+months-at-most call (suc n) a = one-more (call a .refusal) (call a) (monthsBy call n (call a .state)) n (months-at-most call n (call a .state))
 
-start-few : (r : ℕ) (x : Ran) (n : ℕ) → length (x .bloods) ≤ n → length (afterStart r x .bloods) ≤ n
-start-few zero x n h = h
-start-few (suc r) x n h = omega arith
+-- a refusal before the first month leaves no figures
+start-at-most : (r : ℕ) (x : Ran) (n : ℕ) → length (x .bloods) ≤ n → length (afterStart r x .bloods) ≤ n
+start-at-most zero x n h = h
+start-at-most (suc r) x n h = omega arith
 
-pub run-few : (s : ℕ) (f : Files) (places : ℕ) → length (runOf s f places .bloods) ≤ 84
+pub run-at-most : (s : ℕ) (f : Files) (places : ℕ) → length (runOf s f places .bloods) ≤ 84
 unfolding runOf
-run-few s f places =
-    start-few (startRefusal f places) (monthsBy (λ a. monthOf s a f) 84 (birthOf f .state)) 84
-    (months-few (λ a. monthOf s a f) 84 (birthOf f .state))
+run-at-most s f places =
+    start-at-most (startRefusal f places) (monthsBy (λ a. monthOf s a f) 84 (birthOf f .state)) 84
+    (months-at-most (λ a. monthOf s a f) 84 (birthOf f .state))
 
 -- a run's answer and its list of figures, kept
 abbrev kept : RunAnswer → List ℕ → Prepared
 kept x blood = record { refusal = x .refusal; months = x .months; blood = blood }
 
-pub kept-is : (f : Files) (x : RunAnswer) → x ≡ runAnswer (runOf 6 f 84) → (blood : List ℕ) → blood ≡ runList (runOf 6 f 84) (replicate 84 0) → kept x blood ≡ preparedOf f
+pub kept-is : (f : Files) {x : RunAnswer} {blood : List ℕ} → x ≡ runAnswer (runOf 6 f 84) → blood ≡ runList (runOf 6 f 84) (replicate 84 0) → kept x blood ≡ preparedOf f
 unfolding preparedOf
-kept-is f x answer blood list = ap₂ kept answer list
+kept-is f answer list = ap₂ kept answer list

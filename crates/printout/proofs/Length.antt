@@ -16,19 +16,23 @@ use Rattle.engine.specs.Run.{startRefusal, runOf}
 use Rattle.printout.specs.Printout.{monthLines, refusedLine, printoutOf, printout}
 use Rattle.printout.specs.Laws.{FirstBytesLaw}
 
+-- a file of a wrong length refuses the start with 1
 start-refused : (f : Files) → lengthRefusal f ≡ 1 → startRefusal f 84 ≡ 1
 unfolding startRefusal
 start-refused f e = rw e
 
+-- and prints the last line alone
 length-printed : (f : Files) → lengthRefusal f ≡ 1 → printout f ≡ refusedLine 1 0
 unfolding printoutOf runOf monthLines
 length-printed f e = rw (start-refused f e)
 
+-- a test whose second part fails
 second-fails : (t : Bool) → unless (t && false) 1 ≡ 1
 second-fails true = refl
 second-fails false = refl
 
 module _ (site book : List ℕ) where
+  -- a site file or a book of another length
   pub site-printed : (length site ≡ 512 → ⊥) → printout (filesOf site book) ≡ refusedLine 1 0
   site-printed h = length-printed (filesOf site book) (rw (ne-eqb (length site) 512 h))
 
@@ -39,6 +43,7 @@ module _ (site book : List ℕ) where
 read-long : (n most : ℕ) (l : List ℕ) → n < most → most < length l → length (take most l) ≡ n → ⊥
 read-long n most l h g e = omega (arith, length-take-le most l (omega arith))
 
+-- so what is printed of the bytes read is what is printed of the files
 read-same : (a b : ℕ) → 512 < a → 8_704 < b → (site book : List ℕ) → printout (filesOf (take a site) (take b book)) ≡ printout (filesOf site book)
 read-same a b ha hb site book =
     elim (decLt a (length site)) [

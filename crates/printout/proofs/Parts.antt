@@ -1,20 +1,41 @@
--- The parts of a month's line, as they are put.
+-- The parts of a line put one after the other make the line.
 -- Assumes nothing.
-use mathlib.Core.Path.{_≡_, ap}
+use mathlib.Core.Path.{_≡_}
 use Prim.Native.Nat.{ℕ, _/_, _%_}
-use mathlib.Core.List.{List, [], _∷_, _++_}
-use Rattle.printout.specs.Printout.{lineFeed, space, point, digit, decimal, tenths, figure, flag, monthLine}
+use mathlib.Core.List.{List, [], _∷_}
+use Rattle.printout.specs.Printout.{lineFeed, space, point, digit, decimal, tenths, figure, flag, monthLine, refusedText, afterText, refusedLine}
 use Rattle.printout.specs.Text.{Put}
-use Rattle.printout.proofs.Puts.{put-as}
+use Rattle.printout.proofs.Puts.{put-then}
 
-module _ {l a : List ℕ} {i e : ℕ} (blood : ℕ) where
-  pub put-figure : {n : ℕ} → n ≡ tenths blood → Put l i (decimal (n / 10) ++ (point ∷ digit (n % 10) ∷ [])) 12 a e → Put l i (figure blood) 12 a e
+module _ {l₀ l₁ l₂ l₃ : List ℕ} {e₀ e₁ e₂ e₃ : ℕ} (blood : ℕ) where
+  pub put-figure : {n : ℕ} → n ≡ tenths blood
+      → Put l₀ e₀ (decimal (n / 10)) 10 l₁ e₁
+      → Put l₁ e₁ (point ∷ []) 1 l₂ e₂
+      → Put l₂ e₂ (digit (n % 10) ∷ []) 1 l₃ e₃
+      → Put l₀ e₀ (figure blood) 12 l₃ e₃
   unfolding figure
-  put-figure same f = put-as f (ap (λ (t : ℕ). decimal (t / 10) ++ (point ∷ digit (t % 10) ∷ [])) same) (f .small)
+  put-figure same whole dot decimals =
+      rw same at (put-then whole (put-then dot decimals))
 
-  pub put-month : (month : ℕ) {mark : ℕ} → mark ≡ flag blood
-      → Put l i (decimal month ++ (space ∷ (figure blood ++ (space ∷ mark ∷ lineFeed ∷ [])))) 26 a e
-      → Put l i (monthLine month blood) 26 a e
+module _ {l₀ l₁ l₂ l₃ l₄ l₅ l₆ : List ℕ} {e₀ e₁ e₂ e₃ e₄ e₅ e₆ : ℕ} (month blood : ℕ) where
+  pub put-month : {mark : ℕ} → mark ≡ flag blood
+      → Put l₀ e₀ (decimal month) 10 l₁ e₁
+      → Put l₁ e₁ (space ∷ []) 1 l₂ e₂
+      → Put l₂ e₂ (figure blood) 12 l₃ e₃
+      → Put l₃ e₃ (space ∷ []) 1 l₄ e₄
+      → Put l₄ e₄ (mark ∷ []) 1 l₅ e₅
+      → Put l₅ e₅ (lineFeed ∷ []) 1 l₆ e₆
+      → Put l₀ e₀ (monthLine month blood) 26 l₆ e₆
   unfolding monthLine
-  put-month month same f =
-      put-as f (ap (λ (t : ℕ). decimal month ++ (space ∷ (figure blood ++ (space ∷ t ∷ lineFeed ∷ [])))) same) (f .small)
+  put-month same number gap value gap₂ marked end =
+      rw same at (put-then number (put-then gap (put-then value (put-then gap₂ (put-then marked end)))))
+
+module _ {l₀ l₁ l₂ l₃ l₄ l₅ : List ℕ} {e₀ e₁ e₂ e₃ e₄ e₅ : ℕ} (refusal months : ℕ) where
+  pub put-refused : Put l₀ e₀ refusedText 8 l₁ e₁
+      → Put l₁ e₁ (decimal refusal) 10 l₂ e₂
+      → Put l₂ e₂ afterText 7 l₃ e₃
+      → Put l₃ e₃ (decimal months) 10 l₄ e₄
+      → Put l₄ e₄ (lineFeed ∷ []) 1 l₅ e₅
+      → Put l₀ e₀ (refusedLine refusal months) 36 l₅ e₅
+  unfolding refusedLine
+  put-refused refused number after done end = put-then refused (put-then number (put-then after (put-then done end)))

@@ -13,7 +13,7 @@ use Rattle.printout.specs.declared.Prepared.{Prepared}
 use Rattle.printout.specs.Printout.{monthLine, monthLines, lastLine, refusedLine, printoutOf}
 use Rattle.printout.specs.Lines.{keptOf, preparedOf, lineAt, linesFrom}
 use Rattle.printout.specs.Laws.{LinesLaw}
-use Rattle.printout.proofs.Kept.{run-few}
+use Rattle.printout.proofs.Kept.{run-at-most}
 
 last-refused : (r m : ℕ) → (r ≡ 0 → ⊥) → lastLine r m ≡ refusedLine r m
 last-refused zero m h = absurd (h refl)
@@ -21,6 +21,7 @@ last-refused (suc r) m h = refl
 
 -- line k by its place
 module _ (p : Prepared) (k : ℕ) where
+  -- a month that is done
   line-done : k < p .months → lineAt p k ≡ monthLine (suc k) (getD (p .blood) k 0)
   unfolding lineAt
   line-done h = rw (lt-ltb k (p .months) h)
@@ -28,6 +29,7 @@ module _ (p : Prepared) (k : ℕ) where
   pub line-month : k < p .months → {blood : ℕ} → blood ≡ getD (p .blood) k 0 → lineAt p k ≡ monthLine (k + 1) blood
   line-month h e = rw (e, add-one) (line-done h)
 
+  -- past the months: the last line of a refused run, or none
   line-last : k ≡ p .months → lineAt p k ≡ lastLine (p .refusal) (p .months)
   unfolding lineAt
   line-last h = rw (le-ltb k (p .months) (omega arith), eq-eqb k (p .months) h)
@@ -82,4 +84,4 @@ lines-whole r h =
 
 pub lines-law : LinesLaw
 unfolding preparedOf
-lines-law f = lines-whole (runOf 6 f 84) (run-few 6 f 84)
+lines-law f = lines-whole (runOf 6 f 84) (run-at-most 6 f 84)

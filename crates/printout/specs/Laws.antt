@@ -1,9 +1,9 @@
 -- The laws of the printout.
 -- Assumes nothing.
 use mathlib.Core.Path.{_≡_}
-use Prim.Native.Nat.{ℕ, suc, _+_, _-_, _*_, _^_, _<_}
+use Prim.Native.Nat.{ℕ, suc, _+_, _-_, _*_, _^_, _≤_, _<_}
 use mathlib.Core.List.{List, [], _∷_}
-use lib.ListN.{take}
+use lib.ListN.{length, take, getD}
 use Rattle.engine.specs.Files.{Files, filesOf}
 use Rattle.engine.specs.State.{lastMonth}
 use Rattle.printout.specs.Printout.{decimal, printout}
@@ -22,6 +22,12 @@ unfoldable pub valueFrom : ℕ → List ℕ → ℕ
 valueFrom v [] = v
 valueFrom v (d ∷ ds) = valueFrom (10 * v + (d - 48)) ds
 
--- the digits of a number give the number
+-- how a number is written: its digits give it, each is a byte `0` to `9`, and no `0` stands before another digit
+pub record IsDecimal (n : ℕ) (ds : List ℕ) : Type 0 where
+  pub value : valueFrom 0 ds ≡ n
+  pub digits : (i : ℕ) → i < length ds → (48 ≤ getD ds i 0) × (getD ds i 0 ≤ 57)
+  pub one : n < 10 → length ds ≡ 1
+  pub first : 10 ≤ n → 48 < getD ds 0 0
+
 abbrev pub DecimalLaw : Type 0
-DecimalLaw = (n : ℕ) → n < 10 ^ 10 → valueFrom 0 (decimal n) ≡ n
+DecimalLaw = (n : ℕ) → n < 10 ^ 10 → IsDecimal n (decimal n)

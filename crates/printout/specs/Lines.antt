@@ -9,7 +9,7 @@ use Rattle.engine.specs.Files.{Files}
 use Rattle.engine.specs.State.{lastMonth}
 use Rattle.engine.specs.Run.{Ran, runOf, runList}
 use Rattle.printout.specs.declared.Prepared.{Prepared}
-use Rattle.printout.specs.Printout.{monthLine, lastLine, printout}
+use Rattle.printout.specs.Printout.{monthLine, lastLine}
 
 -- what is kept of a run: its refusal, the months done, and 84 places that begin with their figures
 abbrev pub keptOf : Ran → Prepared

@@ -1,4 +1,4 @@
--- The bytes that leadline prints, as a function of the bytes of its two files (document 01, "leadline").
+-- The bytes that leadline prints, as a function of the bytes of its two files (document 01, "Bench figures", last paragraph).
 -- Assumes nothing.
 use Prim.Native.Nat.{ℕ, zero, suc, _+_, _/_, _%_}
 use mathlib.Core.Bool.{cond}

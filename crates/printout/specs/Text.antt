@@ -1,19 +1,14 @@
--- What the writers of a line promise of the lent bytes.
+-- For the contracts between the functions: what the writers of a line do to the lent bytes. No open call's contract needs it.
 -- Assumes nothing.
 use mathlib.Core.Path.{_≡_}
 use Prim.Native.Nat.{ℕ, _+_, _≤_}
-use mathlib.Core.List.{List, _++_}
-use lib.ListN.{length, take}
+use mathlib.Core.List.{List}
+use lib.ListN.{length}
+use lib.Seq.{sets}
 
--- text of at most `most` bytes put at a place: the bytes before it are kept, and `end` is past it
+-- text of at most `most` bytes stored at a place, and every other byte kept: `end` is the place past the text
 pub record Put (before : List ℕ) (place : ℕ) (text : List ℕ) (most : ℕ) (after : List ℕ) (end : ℕ) : Type 0 where
-  pub is : take end after ≡ take place before ++ text
+  pub is : after ≡ sets before place text
+  pub past : end ≡ place + length text
   pub long : length after ≡ length before
   pub small : end ≤ place + most
-  pub fits : end ≤ length after
-
--- the first n bytes are the text; the last part follows, and lending those bytes asks for it
-pub record Holds (text bytes : List ℕ) (n : ℕ) : Type 0 where
-  pub is : take n bytes ≡ text
-  pub within : n ≤ length bytes
-  pub counted : n ≡ length (take n bytes)

@@ -1,8 +1,8 @@
 // What leadline prints, a line at a time, from the bytes of its two files. Reading files and writing bytes is left to the program.
 ghost use mathlib.Core.Path.{_≡_};
-ghost use lib.ListN.{getD};
+ghost use mathlib.Core.List.{_++_};
+ghost use lib.ListN.{length, drop, getD};
 ghost use Rattle.engine.specs.Files.{filesOf};
-ghost use Rattle.printout.specs.Text.{Holds};
 ghost use Rattle.printout.specs.Lines.{preparedOf, lineAt};
 
 mod text; // text.rt: bytes, text and decimal numbers, put into a line
@@ -15,7 +15,7 @@ const MONTHS: usize = 84;
 pub const LINE_BYTES: usize = 36;
 
 // Lines of a printout at most: 84 months and the last line.
-pub const LINES: u32 = 85;
+pub const LINES: u32 = MONTHS as u32 + 1;
 
 // What is kept of a run for its printout.
 pub struct Prepared {
@@ -46,19 +46,20 @@ fn figure_at(run: Prepared, k: u32) -> u32
     if place < MONTHS { blood[place] } else { 0 }
 }
 
-// Puts line k, from 0, at the start of the target, and answers its length: 0 past the last line.
+// Puts line k, from 0, at the start of the target, keeps the bytes past it, and answers its length: 0 past the last line.
 pub fn line(run: Prepared, k: u32, target: &mut [u8; LINE_BYTES]) -> usize
-    ensures { λ r. ⌜ Holds (lineAt run k) (now (target .exit)) r ⌝ }
+    ensures { λ r. ⌜ r ≡ length (lineAt run k) ⌝ }
+    ensures { λ _. ⌜ now (target .exit) ≡ lineAt run k ++ drop (length (lineAt run k)) (now (target .entry)) ⌝ }
 {
     let months = run.months;
     if k < months {
         let blood = figure_at(run, k);
         return lines::put_month(target, k + 1, blood);
     }
-    let refusal = run.refusal;
     if k != months {
         return 0;
     }
+    let refusal = run.refusal;
     if refusal == 0 {
         return 0;
     }

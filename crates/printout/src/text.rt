@@ -29,7 +29,7 @@ pub fn put_digit(target: &mut [u8], place: usize, n: u32) -> usize
     requires { ⌜ (n < 10) × (place < length (now target)) ⌝ }
     ensures { λ r. ⌜ Put (now (target .entry)) place (digit n ∷ []) 1 (now (target .exit)) r ⌝ }
 {
-    put_byte(target, place, 48 + n as u8)
+    put_byte(target, place, b'0' + n as u8)
 }
 
 // The digits of n / 10, and then the last one.

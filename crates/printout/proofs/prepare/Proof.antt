@@ -18,7 +18,7 @@ returns c =
     let a = c .before .before .before .before .before .args in
     let f = filesOf (now (a .site)) (now (a .book)) in
     let run = c .before .run in
-    kept-is f _ (run .ensures .0) _ (run .ensures .1)
+    kept-is f (run .ensures .0) (run .ensures .1)
 
 pub prepare-spec : {M : Type 1} → statement M
 prepare-spec = tie.close (tie.spec slice-aggregate-run run-requires returns)

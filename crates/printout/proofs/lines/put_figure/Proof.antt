@@ -1,7 +1,6 @@
 -- `printout::lines::put_figure` meets its contract: the whole part, a point, and one decimal.
 -- Assumes nothing.
 use borrow.Author.Needs.{needs}
-use Rattle.printout.proofs.Puts.{put-then}
 use Rattle.printout.proofs.Parts.{put-figure}
 use Rattle.printout.proofs.lines.put_figure.Statement.{statement}
 use Rattle.printout.proofs.lines.put_figure.Tie as tie
@@ -25,7 +24,9 @@ returns : tie.Need-returns
 returns c =
     let decimal = c .before .before .before .before .before .before .before .before .before .before in
     put-figure (decimal .before .before .before .before .args .blood) (decimal .before .before .tenths-of .ensures)
-    (put-then (decimal .put-decimal .ensures) (put-then (c .before .before .before .before .before .before .put-byte .ensures) (c .before .before .put-digit .ensures)))
+    (decimal .put-decimal .ensures)
+    (c .before .before .before .before .before .before .put-byte .ensures)
+    (c .before .before .put-digit .ensures)
 
 pub put-figure-spec : {M : Type 1} → statement M
 put-figure-spec =

@@ -1,7 +1,6 @@
 -- `printout::lines::put_month` meets its contract: each part put after the one before.
 -- Assumes nothing.
 use borrow.Author.Needs.{needs}
-use Rattle.printout.proofs.Puts.{put-then}
 use Rattle.printout.proofs.Parts.{put-month}
 use Rattle.printout.proofs.lines.put_month.Statement.{statement}
 use Rattle.printout.proofs.lines.put_month.Tie as tie
@@ -36,12 +35,13 @@ returns c =
     let figure = flag .before .before .before .before .before .before .before .before in
     let month = figure .before .before .before .before .before .before .before .before in
     let a = month .before .before .before .args in
-    put-month (a .blood) (a .month) (flag .flag-of .ensures)
-    (put-then (month .put-decimal .ensures)
-    (put-then (figure .before .before .before .before .put-byte .ensures)
-    (put-then (figure .put-figure .ensures)
-    (put-then (flag .before .before .before .before .put-byte2 .ensures)
-    (put-then (c .before .before .before .before .before .before .put-byte3 .ensures) (c .before .before .put-byte4 .ensures))))))
+    put-month (a .month) (a .blood) (flag .flag-of .ensures)
+    (month .put-decimal .ensures)
+    (figure .before .before .before .before .put-byte .ensures)
+    (figure .put-figure .ensures)
+    (flag .before .before .before .before .put-byte2 .ensures)
+    (c .before .before .before .before .before .before .put-byte3 .ensures)
+    (c .before .before .put-byte4 .ensures)
 
 pub put-month-spec : {M : Type 1} → statement M
 put-month-spec =

@@ -1,8 +1,7 @@
 -- `printout::lines::put_refused` meets its contract: each part put after the one before.
 -- Assumes nothing.
 use borrow.Author.Needs.{needs}
-use Rattle.printout.specs.Printout.{refusedLine}
-use Rattle.printout.proofs.Puts.{put-then}
+use Rattle.printout.proofs.Parts.{put-refused}
 use Rattle.printout.proofs.lines.put_refused.Statement.{statement}
 use Rattle.printout.proofs.lines.put_refused.Tie as tie
 
@@ -31,13 +30,15 @@ same-length : tie.Need-same-length
 same-length c = search needs
 
 returns : tie.Need-returns
-unfolding refusedLine
 returns c =
     let after = c .before .before .before .before .before .before .before .before .before .before in
     let number = after .before .before .before .before .before in
-    put-then (number .before .before .before .before .put-text .ensures)
-    (put-then (number .put-decimal .ensures)
-    (put-then (after .put-text2 .ensures) (put-then (c .before .before .before .before .before .before .put-decimal2 .ensures) (c .before .before .put-byte .ensures))))
+    put-refused _ _
+    (number .before .before .before .before .put-text .ensures)
+    (number .put-decimal .ensures)
+    (after .put-text2 .ensures)
+    (c .before .before .before .before .before .before .put-decimal2 .ensures)
+    (c .before .before .put-byte .ensures)
 
 pub put-refused-spec : {M : Type 1} → statement M
 put-refused-spec =

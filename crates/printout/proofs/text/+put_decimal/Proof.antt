@@ -68,7 +68,7 @@ put-decimal-put-digit-requires-2 : (t : ℕ) → put-decimal-lts.Need-put-digit-
 put-decimal-put-digit-requires-2 t c κs =
     let start = c .before .before .before .before .before .before .before in
     let f = c .before .before .before .put-decimal .ensures in
-    (omega arith, omega (arith, last-place (start .pre .1) (start .args .n) (start .fits .n .fits) f, f .long))
+    (omega arith, omega (arith, last-place (start .args .n) (start .fits .n .fits) f, f .long))
 
 put-decimal-same-length-2 : (t : ℕ) → put-decimal-lts.Need-same-length-2 (
   put-digit-reads.Asked,
@@ -88,7 +88,7 @@ put-decimal-returns-2 t c =
     let front = c .before .before .before .before .before .before in
     let test = front .before .before in
     let start = test .before .before in
-    put-last (start .pre .1) (start .args .n) (start .fits .n .fits) (front .put-decimal .ensures) (test .if1 .left) (c .before .before .put-digit2 .ensures)
+    put-last (start .args .n) (start .fits .n .fits) (front .put-decimal .ensures) (test .if1 .left) (c .before .before .put-digit2 .ensures)
 
 pub +put-decimal-spec : {M : Type 1} → statement M
 +put-decimal-spec = close μ-put-decimal λ t. put-decimal-lts.spec (

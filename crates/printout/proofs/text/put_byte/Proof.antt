@@ -1,6 +1,5 @@
 -- `printout::text::put_byte` meets its contract.
 -- Assumes nothing.
-use denote.Ref.{now}
 use Rattle.printout.proofs.Puts.{put-one}
 use borrow.Author.Needs.{needs}
 use Rattle.printout.proofs.text.put_byte.Statement.{statement}
@@ -16,7 +15,7 @@ same-length : tie.Need-same-length
 same-length c = search needs
 
 returns : tie.Need-returns
-returns c = put-one (now (c .args .target)) (c .args .place) (c .args .byte) (c .pre)
+returns c = put-one
 
 pub put-byte-spec : {M : Type 1} → statement M
 put-byte-spec = tie.close (tie.spec slice-write-target add-result same-length returns)

@@ -17,7 +17,7 @@ abbrev μ-loop : tie.MeasureT-loop
 μ-loop target₀ place text put₀ target put = length text - put
 
 loop-holds : tie.Need-loop-holds Inv-loop μ-loop
-loop-holds c = (omega arith, text-none (now (c .args .target)) (c .args .place) (now (c .args .text)) (c .pre))
+loop-holds c = (omega arith, text-none (now (c .args .text)))
 
 shared-slice-read-target : tie.Need-shared-slice-read-target Inv-loop μ-loop
 shared-slice-read-target c = search needs
@@ -36,10 +36,8 @@ loop-less c = search needs
 
 loop-again : tie.Need-loop-again Inv-loop μ-loop
 loop-again c =
-    let start = c .before .before .before in
-    let a = start .args in
-    let l = c .before .before .loop in
-    (omega arith, text-next (now (a .target)) (a .place) (now (a .text)) (start .pre) (c .before .loop-test .taken) (l .inv .1))
+    let loop = c .before .before in
+    (omega arith, text-next (now (loop .before .args .text)) (c .before .loop-test .taken) (loop .loop .inv .1))
 
 add-result : tie.Need-add-result Inv-loop μ-loop
 add-result c = search needs
@@ -49,10 +47,8 @@ same-length c = search needs
 
 returns : tie.Need-returns Inv-loop μ-loop
 returns c =
-    let start = c .before .before in
-    let a = start .args in
-    let l = c .before .loop in
-    text-whole (now (a .target)) (a .place) (now (a .text)) (start .pre) (omega arith) (l .inv .1)
+    let loop = c .before in
+    text-whole (now (loop .before .args .text)) (omega arith) (loop .loop .inv .1)
 
 pub put-text-spec : {M : Type 1} → statement M
 put-text-spec =
