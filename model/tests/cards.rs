@@ -4,7 +4,6 @@ use jurengate_model::book::{column, read_book};
 use jurengate_model::cards::{curves, published};
 use jurengate_model::engine::run;
 use jurengate_model::figures::{site_fields, text_of, KEYS};
-use jurengate_model::printout::printout;
 use jurengate_model::random::{self, Dice};
 use jurengate_model::site::{place, read_site, Site, AGES};
 use jurengate_model::state::MONTHS;
@@ -126,17 +125,4 @@ fn mistakes_are_told_with_their_line() {
     for (text, told) in cases {
         assert_eq!(site_fields(text).unwrap_err().to_string(), told);
     }
-}
-
-#[test]
-fn the_samples_do_what_they_say() {
-    let last_line = |text: &str| {
-        let site = jurengate_model::cards::site_file(&site_fields(text).unwrap());
-        let printed = String::from_utf8(printout(&site, &curves::book())).unwrap();
-        (printed.lines().last().unwrap().to_string(), printed.contains('W'))
-    };
-    assert_eq!(last_line(include_str!("../../samples/default/figures.txt")), ("84 1.7 -".into(), false));
-    assert_eq!(last_line(include_str!("../../samples/heavy/figures.txt")), ("84 21.1 -".into(), true));
-    assert_eq!(last_line(include_str!("../../samples/refused-intake/figures.txt")).0, "refused 9 after 48");
-    assert_eq!(last_line(include_str!("../../samples/refused-burden/figures.txt")).0, "refused 22 after 26");
 }
