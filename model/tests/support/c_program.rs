@@ -10,7 +10,7 @@ pub fn build(source: &str, libraries: &[&str], program: &Path) {
     let folder = env::var_os("JURENGATE_LIB_DIR");
     let folder = folder.map_or_else(|| repository::at("target/staticlib"), PathBuf::from);
     let status = Command::new("cc")
-        .args(["-std=gnu99", "-Wall", "-Wextra", "-Werror", "-O2", "-I"])
+        .args(["-std=c99", "-Wall", "-Wextra", "-Werror", "-O2", "-I"])
         .arg(repository::at("include"))
         .arg(repository::at(source))
         .arg(folder.join("libjurengate.a"))
