@@ -5,20 +5,23 @@ use jurengate_model::book::{column, Row, D};
 use jurengate_model::cards::{curves, published};
 use jurengate_model::demand3::{audit_month, month_uptake, Ends, ExactRow, MonthFlow};
 use jurengate_model::engine::{birth, month};
+use jurengate_model::fast;
 use jurengate_model::kinetics::step;
 use jurengate_model::random::{self, Dice, Temper};
 use jurengate_model::state::{sum, State, BURDEN_LIMIT};
+use std::collections::BTreeSet;
 
 /// What a list of calls came to.
 #[derive(Default)]
-struct Tally {
+struct Counts {
     months: usize,
-    refused: usize,
+    /// Months accepted right after a refused call.
+    resumed: usize,
     steps: usize,
-    pairs: usize,
+    refusals: BTreeSet<u32>,
 }
 
-/// Holds a month's steps to the margin and its flows to its ends.
+/// Holds a month's steps to the margin and their flows to the month's ends.
 fn hold_month(before: &State, after: &State, flow: &MonthFlow, uptake: u128) {
     assert_eq!((flow.steps, flow.outside), (180, 0));
     assert_eq!(flow.uptake, uptake);
@@ -29,29 +32,39 @@ fn hold_month(before: &State, after: &State, flow: &MonthFlow, uptake: u128) {
     assert_eq!(after.month, before.month + 1);
 }
 
+/// The files of one call, now and then with a fault in them.
+fn call_files(dice: &mut Dice, temper: Temper) -> (Vec<u8>, Vec<u8>) {
+    let faults = usize::from(dice.once_in(5));
+    random::card(dice, temper, faults)
+}
+
 /// A list of month calls from `start`, each with its own files; a refused one leaves the state.
-fn hold_list(dice: &mut Dice, start: State, calls: usize, temper: Temper) -> Tally {
-    let mut tally = Tally::default();
+/// The month ends are those of `fast`, which the watched steps of the model have to reach.
+fn hold_list(dice: &mut Dice, start: State, calls: usize, temper: Temper) -> Counts {
+    let mut counts = Counts::default();
     let mut ends = Ends::default();
-    let mut state = start;
+    let (mut state, mut after_refusal) = (start, false);
     ends.note(state, 0);
     for _ in 0..calls {
-        let (site, book) = (random::site(dice, temper), random::book(dice, temper));
-        let answer = month(&site, &book, &state);
+        let (site, book) = call_files(dice, temper);
+        let answer = fast::month(&site, &book, &state);
+        assert_eq!(month(&site, &book, &state), answer);
         if answer.number != 0 {
             assert_eq!(answer.state, state);
-            tally.refused += 1;
+            counts.refusals.insert(answer.number);
+            after_refusal = true;
             continue;
         }
+        counts.resumed += usize::from(std::mem::take(&mut after_refusal));
         let uptake = month_uptake(&site, &book, state.month).unwrap();
         let (end, flow) = audit_month(&site, &book, &state).unwrap();
         assert_eq!(end, answer.state);
-        hold_month(&state, &end, &flow, uptake);
-        ends.note(end, uptake);
-        (tally.months, tally.steps, state) = (tally.months + 1, tally.steps + flow.steps, end);
+        hold_month(&state, &answer.state, &flow, uptake);
+        ends.note(answer.state, uptake);
+        (counts.months, counts.steps, state) = (counts.months + 1, counts.steps + flow.steps, answer.state);
     }
-    tally.pairs = ends.balance().expect("every two ends balance");
-    tally
+    assert_eq!(ends.balance(), Ok(counts.months * (counts.months + 1) / 2), "every two ends balance");
+    counts
 }
 
 #[test]
@@ -63,6 +76,7 @@ fn the_default_child_through_all_84_months() {
     for _ in 0..84 {
         let uptake = month_uptake(&site, &book, state.month).unwrap();
         let (end, flow) = audit_month(&site, &book, &state).unwrap();
+        assert_eq!(end, fast::month(&site, &book, &state).state);
         hold_month(&state, &end, &flow, uptake);
         ends.note(end, uptake);
         state = end;
@@ -73,15 +87,19 @@ fn the_default_child_through_all_84_months() {
 #[test]
 fn random_lists_of_births_and_months() {
     let mut dice = Dice::new(31);
-    let mut steps = 0;
+    let (mut steps, mut resumed, mut refusals) = (0, 0, BTreeSet::new());
     for turn in 0..24 {
         let temper = [Temper::Mild, Temper::Wide, Temper::Edge][turn % 3];
         let newborn = birth(&random::site(&mut dice, temper), &random::book(&mut dice, temper));
-        let tally = hold_list(&mut dice, newborn.state, 100, temper);
-        assert!(tally.months + tally.refused == 100);
-        steps += tally.steps;
+        let counts = hold_list(&mut dice, newborn.state, 100, temper);
+        steps += counts.steps;
+        resumed += counts.resumed;
+        refusals.extend(counts.refusals);
     }
     assert!(steps > 100_000, "{steps} steps");
+    assert!(resumed > 200, "{resumed} months after a refused call");
+    // 2 and 20 cannot come: a month call has no list, and what it got is a state.
+    assert_eq!(refusals, BTreeSet::from([1, 3, 4, 5, 6, 7, 8, 9, 21, 22]));
 }
 
 #[test]

@@ -3,9 +3,8 @@
 use jurengate_model::cards::{self, curves, published};
 use jurengate_model::engine::{birth, month, read_files, run};
 use jurengate_model::kinetics::step_uptake;
-use jurengate_model::printout::printout;
 use jurengate_model::random::{self, Dice, Temper};
-use jurengate_model::site::{place, AGES};
+use jurengate_model::site::{place, AGES, SITE_FIELDS};
 use jurengate_model::state::{State, MONTHS};
 use jurengate_model::uptake::{day_uptake, intakes};
 
@@ -95,26 +94,43 @@ fn a_day_takes_up_no_more_than_it_takes_in() {
     }
 }
 
+/// The 84 figures and the last state of an accepted run with the realistic book.
+fn whole_run(fields: &[u32; SITE_FIELDS]) -> ([u32; MONTHS], State) {
+    let mut blood = [0; MONTHS];
+    let answer = run(&cards::site_file(fields), &curves::book(), &mut blood);
+    assert_eq!((answer.number, answer.months as usize), (0, MONTHS));
+    (blood, answer.state)
+}
+
 #[test]
 fn unused_modes_change_nothing() {
-    let book = curves::book();
     let mut fields = published::fields();
-    let before = printout(&cards::site_file(&fields), &book);
+    let before = whole_run(&fields);
     fields[place::DUST..place::DUST + AGES].fill(50_000_000);
     fields[place::FLUSHED..=place::FOUNTAIN].fill(10_000_000);
     fields[place::FIRST_DRAW_SHARE] = 0;
-    assert_eq!(printout(&cards::site_file(&fields), &book), before);
+    assert_eq!(whole_run(&fields), before);
+    (fields[place::DUST_MODE], fields[place::WATER_MODE]) = (0, 1);
+    fields[place::DUST..place::DUST + AGES].fill(150_000);
+    fields[place::FLUSHED..=place::FOUNTAIN].fill(900);
+    assert_eq!(whole_run(&fields), before, "the same dust and water by the other modes");
+    fields[place::CONTRIBUTION] = 0;
+    fields[place::AIR_TO_DUST] = 0;
+    fields[place::CONSTANT_WATER] = 10_000_000;
+    assert_eq!(whole_run(&fields), before);
 }
 
 #[test]
 fn another_yard_another_curve() {
-    let book = curves::book();
-    let mut last = printout(&published::site(), &book);
+    let (mut last, _) = whole_run(&published::fields());
     for soil in [250_000, 400_000, 1_000_000] {
         let mut fields = published::fields();
         fields[place::SOIL..place::SOIL + AGES].fill(soil);
-        let next = printout(&cards::site_file(&fields), &book);
-        assert_ne!(next, last);
+        let (next, _) = whole_run(&fields);
+        assert!(
+            next.iter().zip(last).all(|(more, less)| *more > less),
+            "more soil lead, more in every month"
+        );
         last = next;
     }
 }

@@ -9,6 +9,7 @@ mod repository;
 
 use folder::Folder;
 use jurengate_model::book::{BOOK_ROWS, ROW_FIELDS};
+use jurengate_model::cards::{curves, published};
 use std::process::Command;
 
 /// Stack that the run must stay under, a quarter of the box's memory.
@@ -30,7 +31,7 @@ fn the_run_keeps_to_its_stack() {
     let folder = Folder::new("stack");
     let program = folder.path().join("stack");
     c_program::build("bench/stack.c", &["-lpthread"], &program);
-    let card = ["site.lkb", "book.lkb"].map(|file| repository::at("samples/default").join(file));
+    let card = [folder.write("site", &published::site()), folder.write("book", &curves::book())];
     let output = Command::new(&program).args(card).output().expect("the measurement runs");
     assert!(output.status.success(), "{}", String::from_utf8_lossy(&output.stderr));
     let lines = String::from_utf8(output.stdout).expect("text");
