@@ -7,7 +7,7 @@ use jurengate_model::figures::{site_fields, text_of, KEYS};
 use jurengate_model::random::{self, Dice};
 use jurengate_model::site::{place, read_site, Site, AGES};
 use jurengate_model::state::MONTHS;
-use jurengate_model::uptake::intakes;
+use jurengate_model::uptake::{intakes, Intakes};
 
 #[test]
 fn the_realistic_book_is_accepted_and_grows() {
@@ -43,21 +43,74 @@ fn breathing_follows_its_equation_at_mid_year() {
     }
 }
 
-/// The default intakes that document 000 prints, µg/day, held to their last printed digit.
+/// Whether a line stands in the document word for word.
+fn published_line(line: &str) -> bool {
+    include_str!("../../docs/PUBLISHED.md").lines().any(|stored| stored == line)
+}
+
+/// The default intakes that document 000 prints, µg/day by age: each within `margin` of the card's, and in our document.
+fn hold_intakes(
+    row: &str,
+    agreement: &str,
+    margin: f64,
+    printed: [&str; AGES],
+    taken: impl Fn(&Intakes) -> f64,
+) {
+    let site = Site::of_fields(&read_site(&published::site()).unwrap());
+    for (age, printed) in printed.iter().enumerate() {
+        let figure: f64 = printed.parse().unwrap();
+        assert!((taken(&intakes(&site, age).unwrap()) / 1e6 - figure).abs() <= margin, "{row} at age {age}");
+    }
+    assert!(published_line(&format!("| {row} | {} | {agreement} |", printed.join(" | "))), "{row}");
+}
+
 #[test]
 fn published_intakes_come_out() {
-    let site = Site::of_fields(&read_site(&published::site()).unwrap());
-    let absorbed_air = [0.034, 0.057, 0.076, 0.093, 0.102, 0.111, 0.119];
-    let water = [0.36, 0.39, 0.46, 0.49, 0.51, 0.54, 0.57];
-    let soil = [7.74, 8.46, 6.03, 5.67, 6.03, 4.68, 4.95];
-    let dust = [7.10, 7.76, 5.53, 5.20, 5.53, 4.29, 4.54];
-    for age in 0..AGES {
-        let taken = intakes(&site, age).unwrap();
-        let micrograms = |picograms: u128| picograms as f64 / 1e6;
-        assert!((0.32 * micrograms(taken.air) - absorbed_air[age]).abs() <= 0.0011);
-        assert!((micrograms(taken.eaten[1]) - water[age]).abs() <= 0.0051);
-        assert!((micrograms(taken.eaten[2]) - dust[age]).abs() <= 0.0051);
-        assert!((micrograms(taken.eaten[3]) - soil[age]).abs() <= 0.0051);
+    let last_digit = "to half of the last printed digit";
+    let water = ["0.36", "0.39", "0.46", "0.49", "0.51", "0.54", "0.57"];
+    hold_intakes("water", last_digit, 0.0051, water, |taken| taken.eaten[1] as f64);
+    let soil = ["7.74", "8.46", "6.03", "5.67", "6.03", "4.68", "4.95"];
+    hold_intakes("soil", last_digit, 0.0051, soil, |taken| taken.eaten[3] as f64);
+    let dust = ["7.10", "7.76", "5.53", "5.20", "5.53", "4.29", "4.54"];
+    hold_intakes("dust, at 150 µg/g", last_digit, 0.0051, dust, |taken| taken.eaten[2] as f64);
+    let air = ["0.034", "0.057", "0.076", "0.093", "0.102", "0.111", "0.119"];
+    hold_intakes("air, absorbed", "within 0.0011", 0.0011, air, |taken| 0.32 * taken.air as f64);
+}
+
+/// The 84 figures of the default card.
+fn default_blood() -> [u32; MONTHS] {
+    let mut blood = [0; MONTHS];
+    assert_eq!(run(&published::site(), &curves::book(), &mut blood).number, 0);
+    blood
+}
+
+/// A mean of figures in µg/dL, rounded half up to two decimals.
+fn mean(figures: &[u32]) -> String {
+    let (sum, count) = (figures.iter().sum::<u32>(), figures.len() as u32);
+    let hundredths = (sum + 5 * count) / (10 * count);
+    format!("{}.{:02}", hundredths / 100, hundredths % 100)
+}
+
+/// A figure in µg/dL, unrounded.
+fn figure(blood: u32) -> String {
+    format!("{}.{:03}", blood / 1000, blood % 1000)
+}
+
+/// The document's blood table is that of the unrounded figures.
+#[test]
+fn the_published_blood_table_is_the_default_card_s() {
+    let blood = default_blood();
+    let years: Vec<String> = blood.chunks_exact(12).map(mean).collect();
+    let highest = *blood.iter().max().unwrap();
+    let month = 1 + blood.iter().position(|&each| each == highest).unwrap();
+    let rows = [
+        format!("| mean by year of age, 0 to 6 | {} |", years.join(", ")),
+        format!("| mean over months 12 to 72 | {} |", mean(&blood[11..72])),
+        format!("| highest | {}, in month {month} |", figure(highest)),
+        format!("| month 84 | {} |", figure(blood[83])),
+    ];
+    for row in rows {
+        assert!(published_line(&row), "{row}");
     }
 }
 
@@ -65,9 +118,7 @@ fn published_intakes_come_out() {
 /// blood lead for their default site. 003 works its example with a mean of 3 µg/dL.
 #[test]
 fn the_default_child_has_a_common_child_s_blood_lead() {
-    let mut blood = [0; MONTHS];
-    assert_eq!(run(&published::site(), &curves::book(), &mut blood).number, 0);
-    let mean = blood[11..72].iter().sum::<u32>() / 61;
+    let mean = default_blood()[11..72].iter().sum::<u32>() / 61;
     assert!((2_000..=2_700).contains(&mean), "mean {mean}");
 }
 
