@@ -102,7 +102,7 @@ impl fmt::Display for Mistake {
 }
 
 impl Key {
-    /// A field's value as people write it, without needless noughts.
+    /// A field's value as people write it, without needless zeros.
     pub fn shown(&self, value: u32) -> String {
         let scale = 10u32.pow(self.decimals as u32);
         let (whole, part) = (value / scale, value % scale);

@@ -4,7 +4,7 @@ use jurengate_model::book::{column, read_book};
 use jurengate_model::cards::{curves, published};
 use jurengate_model::engine::run;
 use jurengate_model::figures::{site_fields, text_of, KEYS};
-use jurengate_model::random::{self, Dice};
+use jurengate_model::random::{self, Generator};
 use jurengate_model::site::{place, read_site, Site, AGES};
 use jurengate_model::state::MONTHS;
 use jurengate_model::uptake::{intakes, Intakes};
@@ -21,7 +21,7 @@ fn the_realistic_book_is_accepted_and_grows() {
 }
 
 #[test]
-fn curve_figures_that_can_be_reckoned_by_hand() {
+fn curve_figures_that_can_be_computed_by_hand() {
     let rows = curves::rows();
     assert_eq!((rows[0][column::VB], rows[0][column::VP], rows[0][column::BODY]), (3_714, 2_027, 3_646));
     // 12.3 kg is what the agency takes a 24-month-old to weigh; the curve gives 12.339.
@@ -49,7 +49,7 @@ fn published_line(line: &str) -> bool {
 }
 
 /// The default intakes that document 000 prints, µg/day by age: each within `margin` of the card's, and in our document.
-fn hold_intakes(
+fn check_intakes(
     row: &str,
     agreement: &str,
     margin: f64,
@@ -68,13 +68,13 @@ fn hold_intakes(
 fn published_intakes_come_out() {
     let last_digit = "to half of the last printed digit";
     let water = ["0.36", "0.39", "0.46", "0.49", "0.51", "0.54", "0.57"];
-    hold_intakes("water", last_digit, 0.0051, water, |taken| taken.eaten[1] as f64);
+    check_intakes("water", last_digit, 0.0051, water, |taken| taken.eaten[1] as f64);
     let soil = ["7.74", "8.46", "6.03", "5.67", "6.03", "4.68", "4.95"];
-    hold_intakes("soil", last_digit, 0.0051, soil, |taken| taken.eaten[3] as f64);
+    check_intakes("soil", last_digit, 0.0051, soil, |taken| taken.eaten[3] as f64);
     let dust = ["7.10", "7.76", "5.53", "5.20", "5.53", "4.29", "4.54"];
-    hold_intakes("dust, at 150 µg/g", last_digit, 0.0051, dust, |taken| taken.eaten[2] as f64);
+    check_intakes("dust, at 150 µg/g", last_digit, 0.0051, dust, |taken| taken.eaten[2] as f64);
     let air = ["0.034", "0.057", "0.076", "0.093", "0.102", "0.111", "0.119"];
-    hold_intakes("air, absorbed", "within 0.0011", 0.0011, air, |taken| 0.32 * taken.air as f64);
+    check_intakes("air, absorbed", "within 0.0011", 0.0011, air, |taken| 0.32 * taken.air as f64);
 }
 
 /// The 84 figures of the default card.
@@ -132,10 +132,10 @@ fn an_empty_text_is_the_published_site() {
 fn the_keys_cover_the_94_fields_once() {
     let text = text_of(&[0; 94]);
     assert_eq!(text.lines().count(), KEYS.len());
-    let mut dice = Dice::new(61);
+    let mut generator = Generator::new(61);
     for _ in 0..200 {
-        let temper = random::temper(&mut dice);
-        let fields = random::site_fields(&mut dice, temper);
+        let range = random::range(&mut generator);
+        let fields = random::site_fields(&mut generator, range);
         assert_eq!(site_fields(&text_of(&fields)), Ok(fields));
     }
 }

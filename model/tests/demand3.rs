@@ -7,7 +7,7 @@ use jurengate_model::demand3::{audit_month, month_uptake, Ends, ExactRow, MonthF
 use jurengate_model::engine::{birth, month};
 use jurengate_model::fast;
 use jurengate_model::kinetics::step;
-use jurengate_model::random::{self, Dice, Temper};
+use jurengate_model::random::{self, Generator, Range};
 use jurengate_model::state::{sum, State, BURDEN_LIMIT};
 use std::collections::BTreeSet;
 
@@ -22,7 +22,7 @@ struct Counts {
 }
 
 /// Holds a month's steps to the margin and their flows to the month's ends.
-fn hold_month(before: &State, after: &State, flow: &MonthFlow, uptake: u128) {
+fn check_month(before: &State, after: &State, flow: &MonthFlow, uptake: u128) {
     assert_eq!((flow.steps, flow.outside), (180, 0));
     assert_eq!(flow.uptake, uptake);
     for ledger in 0..3 {
@@ -33,20 +33,20 @@ fn hold_month(before: &State, after: &State, flow: &MonthFlow, uptake: u128) {
 }
 
 /// The files of one call, now and then with a fault in them.
-fn call_files(dice: &mut Dice, temper: Temper) -> (Vec<u8>, Vec<u8>) {
-    let faults = usize::from(dice.once_in(5));
-    random::card(dice, temper, faults)
+fn call_files(generator: &mut Generator, range: Range) -> (Vec<u8>, Vec<u8>) {
+    let faults = usize::from(generator.once_in(5));
+    random::card(generator, range, faults)
 }
 
 /// A list of month calls from `start`, each with its own files; a refused one leaves the state.
 /// The month ends are those of `fast`, which the watched steps of the model have to reach.
-fn hold_list(dice: &mut Dice, start: State, calls: usize, temper: Temper) -> Counts {
+fn check_list(generator: &mut Generator, start: State, calls: usize, range: Range) -> Counts {
     let mut counts = Counts::default();
     let mut ends = Ends::default();
     let (mut state, mut after_refusal) = (start, false);
     ends.note(state, 0);
     for _ in 0..calls {
-        let (site, book) = call_files(dice, temper);
+        let (site, book) = call_files(generator, range);
         let answer = fast::month(&site, &book, &state);
         assert_eq!(month(&site, &book, &state), answer);
         if answer.number != 0 {
@@ -59,7 +59,7 @@ fn hold_list(dice: &mut Dice, start: State, calls: usize, temper: Temper) -> Cou
         let uptake = month_uptake(&site, &book, state.month).unwrap();
         let (end, flow) = audit_month(&site, &book, &state).unwrap();
         assert_eq!(end, answer.state);
-        hold_month(&state, &answer.state, &flow, uptake);
+        check_month(&state, &answer.state, &flow, uptake);
         ends.note(answer.state, uptake);
         (counts.months, counts.steps, state) = (counts.months + 1, counts.steps + flow.steps, answer.state);
     }
@@ -77,7 +77,7 @@ fn the_default_child_through_all_84_months() {
         let uptake = month_uptake(&site, &book, state.month).unwrap();
         let (end, flow) = audit_month(&site, &book, &state).unwrap();
         assert_eq!(end, fast::month(&site, &book, &state).state);
-        hold_month(&state, &end, &flow, uptake);
+        check_month(&state, &end, &flow, uptake);
         ends.note(end, uptake);
         state = end;
     }
@@ -86,12 +86,12 @@ fn the_default_child_through_all_84_months() {
 
 #[test]
 fn random_lists_of_births_and_months() {
-    let mut dice = Dice::new(31);
+    let mut generator = Generator::new(31);
     let (mut steps, mut resumed, mut refusals) = (0, 0, BTreeSet::new());
     for turn in 0..24 {
-        let temper = [Temper::Mild, Temper::Wide, Temper::Edge][turn % 3];
-        let newborn = birth(&random::site(&mut dice, temper), &random::book(&mut dice, temper));
-        let counts = hold_list(&mut dice, newborn.state, 100, temper);
+        let range = Range::of_turn(turn);
+        let newborn = birth(&random::site(&mut generator, range), &random::book(&mut generator, range));
+        let counts = check_list(&mut generator, newborn.state, 100, range);
         steps += counts.steps;
         resumed += counts.resumed;
         refusals.extend(counts.refusals);
@@ -104,25 +104,25 @@ fn random_lists_of_births_and_months() {
 
 #[test]
 fn random_states_up_to_the_limit() {
-    let mut dice = Dice::new(32);
+    let mut generator = Generator::new(32);
     let mut steps = 0;
     for turn in 0..400 {
-        let temper = [Temper::Mild, Temper::Wide, Temper::Edge][turn % 3];
-        let state = random::state(&mut dice, false);
-        steps += hold_list(&mut dice, state, 2, temper).steps;
+        let range = Range::of_turn(turn);
+        let state = random::state(&mut generator, false);
+        steps += check_list(&mut generator, state, 2, range).steps;
     }
     assert!(steps > 40_000, "{steps} steps");
 }
 
 #[test]
 fn single_steps_of_extreme_rows_at_a_full_burden() {
-    let mut dice = Dice::new(33);
+    let mut generator = Generator::new(33);
     for _ in 0..20_000 {
-        let temper = random::temper(&mut dice);
-        let row = Row::of_fields(&random::row(&mut dice, temper, 24));
-        let before = random::state(&mut dice, false).compartments;
+        let range = random::range(&mut generator);
+        let row = Row::of_fields(&random::row(&mut generator, range, 24));
+        let before = random::state(&mut generator, false).compartments;
         let room = (BURDEN_LIMIT - sum(&before)) as u64;
-        let uptake = dice.edged(room.min(1_000_000_000));
+        let uptake = generator.at_limits(room.min(1_000_000_000));
         let after = step(&row, &before, uptake);
         let exact = ExactRow::of(&row);
         assert!(exact.margin_holds(&before, uptake, after.compartments[0]), "{row:?} {before:?} {uptake}");

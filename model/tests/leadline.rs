@@ -11,7 +11,7 @@ use folder::Folder;
 use jurengate_model::book::{column, RowFields, BOOK_ROWS, ROW_FIELDS};
 use jurengate_model::cards::{book_file, curves, published, site_file};
 use jurengate_model::printout::printout;
-use jurengate_model::random::{book, damaged, fault, row_faults, site, temper, Dice, Fault, Intake};
+use jurengate_model::random::{book, damaged, fault, range, row_faults, site, Fault, Generator, Intake};
 use jurengate_model::site::{place, SATURATION_LEAST, SITE_FIELDS};
 use std::fs::{self, OpenOptions};
 use std::path::Path;
@@ -98,7 +98,7 @@ fn the_published_default() {
 }
 
 /// A child that keeps its birth's red cells and takes up nothing: its blood figure is 85 % of the mother's in every month.
-fn still_child(mother: u32) -> (Vec<u8>, Vec<u8>) {
+fn constant_child(mother: u32) -> (Vec<u8>, Vec<u8>) {
     let mut fields = [0; SITE_FIELDS];
     fields[place::SATURATION] = SATURATION_LEAST;
     fields[place::MOTHER] = mother;
@@ -113,14 +113,14 @@ fn still_child(mother: u32) -> (Vec<u8>, Vec<u8>) {
 #[test]
 fn the_mark_at_30000_and_30001() {
     for (mother, line) in [(35_295, "84 30.0 -"), (35_296, "84 30.0 W")] {
-        let (site, book) = still_child(mother);
+        let (site, book) = constant_child(mother);
         assert_eq!(last_line(&compare("mark", Some(&site), Some(&book))), line);
     }
 }
 
 #[test]
 fn every_refusal_number() {
-    let mut dice = Dice::new(20);
+    let mut generator = Generator::new(20);
     let mut faults = vec![
         Fault::SiteCheck,
         Fault::SiteEdition,
@@ -137,7 +137,7 @@ fn every_refusal_number() {
     ];
     faults.extend(row_faults().into_iter().map(|each| Fault::Row(60, each)));
     for each in faults {
-        let (site, book) = damaged(&mut dice, &published::fields(), &curves::rows(), &[each]);
+        let (site, book) = damaged(&mut generator, &published::fields(), &curves::rows(), &[each]);
         let line = last_line(&compare("faults", Some(&site), Some(&book)));
         assert!(line.starts_with(&format!("refused {} after ", each.number())), "{line}");
     }
@@ -145,20 +145,20 @@ fn every_refusal_number() {
 
 #[test]
 fn random_cards() {
-    let mut dice = Dice::new(21);
+    let mut generator = Generator::new(21);
     for _ in 0..150 {
-        let kind = temper(&mut dice);
-        let (site, book) = (site(&mut dice, kind), book(&mut dice, kind));
+        let kind = range(&mut generator);
+        let (site, book) = (site(&mut generator, kind), book(&mut generator, kind));
         compare("random", Some(&site), Some(&book));
     }
 }
 
 #[test]
 fn random_damage() {
-    let mut dice = Dice::new(22);
+    let mut generator = Generator::new(22);
     for _ in 0..150 {
-        let each = fault(&mut dice);
-        let (site, book) = damaged(&mut dice, &published::fields(), &curves::rows(), &[each]);
+        let each = fault(&mut generator);
+        let (site, book) = damaged(&mut generator, &published::fields(), &curves::rows(), &[each]);
         compare("damage", Some(&site), Some(&book));
     }
 }

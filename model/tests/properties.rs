@@ -3,17 +3,17 @@
 use jurengate_model::cards::{self, curves, published};
 use jurengate_model::engine::{birth, month, read_files, run};
 use jurengate_model::kinetics::step_uptake;
-use jurengate_model::random::{self, Dice, Temper};
+use jurengate_model::random::{self, Generator, Range};
 use jurengate_model::site::{place, AGES, SITE_FIELDS};
 use jurengate_model::state::{State, MONTHS};
 use jurengate_model::uptake::{day_uptake, intakes};
 
 #[test]
 fn the_run_is_birth_and_months() {
-    let mut dice = Dice::new(51);
+    let mut generator = Generator::new(51);
     for _ in 0..120 {
-        let temper = random::temper(&mut dice);
-        let (site, book) = (random::site(&mut dice, temper), random::book(&mut dice, temper));
+        let range = random::range(&mut generator);
+        let (site, book) = (random::site(&mut generator, range), random::book(&mut generator, range));
         let mut blood = [u32::MAX; MONTHS];
         let whole = run(&site, &book, &mut blood);
         let newborn = birth(&site, &book);
@@ -33,11 +33,11 @@ fn the_run_is_birth_and_months() {
 
 #[test]
 fn month_ends_are_states() {
-    let mut dice = Dice::new(52);
+    let mut generator = Generator::new(52);
     for _ in 0..3_000 {
-        let temper = random::temper(&mut dice);
-        let (site, book) = (random::site(&mut dice, temper), random::book(&mut dice, temper));
-        let answer = month(&site, &book, &random::state(&mut dice, false));
+        let range = random::range(&mut generator);
+        let (site, book) = (random::site(&mut generator, range), random::book(&mut generator, range));
+        let answer = month(&site, &book, &random::state(&mut generator, false));
         assert!(answer.number == 0 || answer.number == 9 || answer.number == 22);
         assert!(answer.state.is_state());
     }
@@ -45,22 +45,22 @@ fn month_ends_are_states() {
 
 #[test]
 fn random_states_are_what_they_are_called() {
-    let mut dice = Dice::new(53);
+    let mut generator = Generator::new(53);
     for _ in 0..20_000 {
-        assert!(random::state(&mut dice, false).is_state());
-        assert_eq!(random::state(&mut dice, true).month, 84);
-        assert!(!random::no_state(&mut dice).is_state());
+        assert!(random::state(&mut generator, false).is_state());
+        assert_eq!(random::state(&mut generator, true).month, 84);
+        assert!(!random::no_state(&mut generator).is_state());
     }
 }
 
 #[test]
-fn tempers_reach_what_they_are_for() {
-    let mut dice = Dice::new(54);
+fn ranges_reach_what_they_are_for() {
+    let mut generator = Generator::new(54);
     let mut numbers = [0; 23];
     let mut whole = 0;
     for turn in 0..300 {
-        let temper = [Temper::Mild, Temper::Wide, Temper::Edge][turn % 3];
-        let (site, book) = (random::site(&mut dice, temper), random::book(&mut dice, temper));
+        let range = Range::of_turn(turn);
+        let (site, book) = (random::site(&mut generator, range), random::book(&mut generator, range));
         let answer = run(&site, &book, &mut [0; MONTHS]);
         numbers[answer.number as usize] += 1;
         whole += usize::from(answer.months == 84);
@@ -71,19 +71,19 @@ fn tempers_reach_what_they_are_for() {
 
 #[test]
 fn the_six_shares_add_up() {
-    let mut dice = Dice::new(55);
+    let mut generator = Generator::new(55);
     for _ in 0..20_000 {
-        let day = u128::from(dice.edged(6_000_000_000));
+        let day = u128::from(generator.at_limits(6_000_000_000));
         assert_eq!((0..6).map(|k| u128::from(step_uptake(day, k))).sum::<u128>(), day);
     }
 }
 
 #[test]
 fn a_day_takes_up_no_more_than_it_takes_in() {
-    let mut dice = Dice::new(56);
+    let mut generator = Generator::new(56);
     for _ in 0..500 {
-        let temper = random::temper(&mut dice);
-        let files = read_files(&random::site(&mut dice, temper), &random::book(&mut dice, temper));
+        let range = random::range(&mut generator);
+        let files = read_files(&random::site(&mut generator, range), &random::book(&mut generator, range));
         let (site, book) = files.unwrap();
         for month in [1, 12, 13, 24, 25, 84] {
             let Ok(uptake) = day_uptake(&site, &book, month) else { continue };
