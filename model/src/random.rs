@@ -4,7 +4,9 @@ mod damage;
 mod generator;
 mod states;
 
-pub use damage::{break_intake, break_row, damaged, fault, row_faults, Fault, Intake, RowFault, INTAKES};
+pub use damage::{
+    break_intake, break_row, damaged, fault, file_faults, row_faults, Fault, Intake, RowFault, INTAKES,
+};
 pub use generator::Generator;
 pub use states::{any_numbers, any_state, burdened, no_state, state};
 

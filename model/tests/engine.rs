@@ -4,7 +4,7 @@ use jurengate_model::block::{self, BLOCK_BYTES, BODY_BYTES};
 use jurengate_model::cards::{self, curves, published};
 use jurengate_model::demand3::{audit_month, month_uptake, Ends};
 use jurengate_model::kinetics::step_uptake;
-use jurengate_model::random::{self, damaged, row_faults, Fault, Generator, Range, INTAKES};
+use jurengate_model::random::{self, damaged, file_faults, row_faults, Fault, Generator, Range, INTAKES};
 use jurengate_model::refusal::number_of;
 use jurengate_model::site::{self, place, AGES, SITE_FIELDS};
 use jurengate_model::state::{State, BURDEN_LIMIT, MONTHS};
@@ -123,7 +123,7 @@ fn random_whole_runs() {
     let mut generator = Generator::new(101);
     for turn in 0..600 {
         let range = Range::of_turn(turn);
-        let (site, book) = (random::site(&mut generator, range), random::book(&mut generator, range));
+        let (site, book) = random::card(&mut generator, range, 0);
         let length = list_length(&mut generator);
         comparison.run(&site, &book, length);
     }
@@ -135,7 +135,7 @@ fn random_months_from_any_state() {
     let mut generator = Generator::new(102);
     for turn in 0..6_000 {
         let range = Range::of_turn(turn);
-        let (site, book) = (random::site(&mut generator, range), random::book(&mut generator, range));
+        let (site, book) = random::card(&mut generator, range, 0);
         comparison.birth(&site, &book);
         comparison.month(&site, &book, &random::any_state(&mut generator));
     }
@@ -236,25 +236,7 @@ fn site_fields_at_and_past_their_limits() {
 
 /// Every kind of fault, each block, every site field and every row fault among them.
 fn every_fault() -> Vec<Fault> {
-    let mut faults = vec![
-        Fault::SiteCheck,
-        Fault::SiteEdition,
-        Fault::SiteNumber,
-        Fault::SiteReserved,
-        Fault::Shares,
-        Fault::SaturationLow,
-    ];
-    faults.extend([0, 1, 4, 508, 511, 513, 1024].map(Fault::SiteLength));
-    faults.extend([0, 1, 512, 8_192, 8_703, 8_705, 9_216].map(Fault::BookLength));
-    faults.extend((0..SITE_FIELDS).map(Fault::SiteField));
-    for block in 0..17 {
-        faults.extend([
-            Fault::BlockCheck(block),
-            Fault::BlockEdition(block),
-            Fault::BlockNumber(block),
-            Fault::BlockReserved(block),
-        ]);
-    }
+    let mut faults = file_faults();
     for (index, fault) in row_faults().into_iter().enumerate() {
         faults.extend([0, 4, 5, 24, 84, (7 * index) % 85].map(|month| Fault::Row(month, fault)));
     }
@@ -280,11 +262,8 @@ fn several_faults_at_once() {
     let mut generator = Generator::new(105);
     for turn in 0..2_000 {
         let range = Range::of_turn(turn);
-        let (fields, rows) =
-            (random::site_fields(&mut generator, range), random::rows(&mut generator, range));
-        let faults: Vec<Fault> =
-            (0..generator.between(1, 4)).map(|_| random::fault(&mut generator)).collect();
-        let (site, book) = damaged(&mut generator, &fields, &rows, &faults);
+        let faults = generator.between(1, 4) as usize;
+        let (site, book) = random::card(&mut generator, range, faults);
         let length = list_length(&mut generator);
         comparison.read_site(&site);
         comparison.birth(&site, &book);
@@ -345,9 +324,8 @@ fn the_writer_and_read_back() {
 /// One call of a list: its own files, sometimes damaged, mostly near the defaults.
 fn call_files(generator: &mut Generator) -> (Vec<u8>, Vec<u8>) {
     let range = if generator.once_in(4) { random::range(generator) } else { Range::Near };
-    let (fields, rows) = (random::site_fields(generator, range), random::rows(generator, range));
-    let faults: Vec<Fault> = if generator.once_in(5) { vec![random::fault(generator)] } else { vec![] };
-    damaged(generator, &fields, &rows, &faults)
+    let faults = usize::from(generator.once_in(5));
+    random::card(generator, range, faults)
 }
 
 /// Lists of calls with refused ones among them: the engine's own month ends balance

@@ -1,7 +1,7 @@
 //! The quick second writing against the model, call by call.
 
 use jurengate_model::cards::{curves, published};
-use jurengate_model::random::{self, damaged, Generator};
+use jurengate_model::random::{self, Generator};
 use jurengate_model::state::{State, MONTHS};
 use jurengate_model::{engine, fast};
 
@@ -28,7 +28,7 @@ fn random_runs() {
     let mut generator = Generator::new(41);
     for _ in 0..300 {
         let range = random::range(&mut generator);
-        let (site, book) = (random::site(&mut generator, range), random::book(&mut generator, range));
+        let (site, book) = random::card(&mut generator, range, 0);
         compare_runs(&site, &book, MONTHS);
     }
 }
@@ -38,7 +38,7 @@ fn random_states() {
     let mut generator = Generator::new(42);
     for _ in 0..4_000 {
         let range = random::range(&mut generator);
-        let (site, book) = (random::site(&mut generator, range), random::book(&mut generator, range));
+        let (site, book) = random::card(&mut generator, range, 0);
         compare_calls(&site, &book, &random::any_state(&mut generator));
     }
 }
@@ -48,10 +48,8 @@ fn damaged_files() {
     let mut generator = Generator::new(43);
     for _ in 0..3_000 {
         let range = random::range(&mut generator);
-        let (fields, rows) =
-            (random::site_fields(&mut generator, range), random::rows(&mut generator, range));
-        let faults: Vec<_> = (0..generator.between(1, 3)).map(|_| random::fault(&mut generator)).collect();
-        let (site, book) = damaged(&mut generator, &fields, &rows, &faults);
+        let faults = generator.between(1, 3) as usize;
+        let (site, book) = random::card(&mut generator, range, faults);
         compare_calls(&site, &book, &random::any_state(&mut generator));
         let length = if generator.once_in(4) { generator.index(100) } else { MONTHS };
         compare_runs(&site, &book, length);

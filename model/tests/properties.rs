@@ -13,7 +13,7 @@ fn the_run_is_birth_and_months() {
     let mut generator = Generator::new(51);
     for _ in 0..120 {
         let range = random::range(&mut generator);
-        let (site, book) = (random::site(&mut generator, range), random::book(&mut generator, range));
+        let (site, book) = random::card(&mut generator, range, 0);
         let mut blood = [u32::MAX; MONTHS];
         let whole = run(&site, &book, &mut blood);
         let newborn = birth(&site, &book);
@@ -36,7 +36,7 @@ fn month_ends_are_states() {
     let mut generator = Generator::new(52);
     for _ in 0..3_000 {
         let range = random::range(&mut generator);
-        let (site, book) = (random::site(&mut generator, range), random::book(&mut generator, range));
+        let (site, book) = random::card(&mut generator, range, 0);
         let answer = month(&site, &book, &random::state(&mut generator, false));
         assert!(answer.number == 0 || answer.number == 9 || answer.number == 22);
         assert!(answer.state.is_state());
@@ -60,7 +60,7 @@ fn ranges_reach_what_they_are_for() {
     let mut whole = 0;
     for turn in 0..300 {
         let range = Range::of_turn(turn);
-        let (site, book) = (random::site(&mut generator, range), random::book(&mut generator, range));
+        let (site, book) = random::card(&mut generator, range, 0);
         let answer = run(&site, &book, &mut [0; MONTHS]);
         numbers[answer.number as usize] += 1;
         whole += usize::from(answer.months == 84);

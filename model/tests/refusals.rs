@@ -1,10 +1,12 @@
 //! Every refusal number, the order among them, and what a refused call leaves.
 
 use jurengate_model::block::{write_block, BLOCK_BYTES, BODY_BYTES};
-use jurengate_model::book::{column, read_book, row_fields, RowFields, BLOCK_ROWS, BOOK_BLOCKS, BOOK_ROWS};
+use jurengate_model::book::{column, read_book, row_fields, RowFields, BLOCK_ROWS, BOOK_ROWS};
 use jurengate_model::cards::{self, curves, published};
 use jurengate_model::engine::{birth, month, run, RunAnswer};
-use jurengate_model::random::{damaged, fault, row_faults, Fault, Generator, Intake, RowFault, INTAKES};
+use jurengate_model::random::{
+    damaged, fault, file_faults, row_faults, Fault, Generator, Intake, RowFault, INTAKES,
+};
 use jurengate_model::refusal::{number_of, Refusal};
 use jurengate_model::site::{least, most, place, read_site, AGES, SITE_FIELDS};
 use jurengate_model::state::{State, MONTHS};
@@ -32,38 +34,13 @@ fn unabsorbed_fields() -> [u32; SITE_FIELDS] {
     fields
 }
 
-/// Every fault that stands in the files themselves.
-fn file_faults() -> Vec<Fault> {
-    let mut faults = vec![
-        Fault::SiteCheck,
-        Fault::SiteEdition,
-        Fault::SiteNumber,
-        Fault::SiteReserved,
-        Fault::Shares,
-        Fault::SaturationLow,
-    ];
-    faults.extend([0, 1, 511, 513, 1024].map(Fault::SiteLength));
-    faults.extend([0, 512, 8_703, 8_705, 9_216].map(Fault::BookLength));
-    faults.extend((0..SITE_FIELDS).map(Fault::SiteField));
-    for block in 0..BOOK_BLOCKS {
-        faults.extend([
-            Fault::BlockCheck(block),
-            Fault::BlockEdition(block),
-            Fault::BlockNumber(block),
-            Fault::BlockReserved(block),
-        ]);
-    }
-    for month in 0..BOOK_ROWS {
-        faults.extend(row_faults().into_iter().map(|fault| Fault::Row(month, fault)));
-    }
-    faults
-}
-
 #[test]
 fn every_file_fault_has_its_number_in_all_calls() {
     let mut generator = Generator::new(1);
     let state = birth(&published::site(), &curves::book()).state;
-    for fault in file_faults() {
+    let rows =
+        (0..BOOK_ROWS).flat_map(|month| row_faults().into_iter().map(move |fault| Fault::Row(month, fault)));
+    for fault in file_faults().into_iter().chain(rows) {
         let (site, book) = damaged_default(&mut generator, &[fault]);
         let number = fault.number();
         assert_eq!(

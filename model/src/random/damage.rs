@@ -212,6 +212,30 @@ impl Fault {
     }
 }
 
+/// Every fault of lengths, of blocks' checks, editions, numbers and reserved bytes, and of site fields.
+pub fn file_faults() -> Vec<Fault> {
+    let mut faults = vec![
+        Fault::SiteCheck,
+        Fault::SiteEdition,
+        Fault::SiteNumber,
+        Fault::SiteReserved,
+        Fault::Shares,
+        Fault::SaturationLow,
+    ];
+    faults.extend([0, 1, 4, 508, 511, 513, 1024].map(Fault::SiteLength));
+    faults.extend([0, 1, 512, 8_192, 8_703, 8_705, 9_216].map(Fault::BookLength));
+    faults.extend((0..SITE_FIELDS).map(Fault::SiteField));
+    for block in 0..BOOK_BLOCKS {
+        faults.extend([
+            Fault::BlockCheck(block),
+            Fault::BlockEdition(block),
+            Fault::BlockNumber(block),
+            Fault::BlockReserved(block),
+        ]);
+    }
+    faults
+}
+
 /// A fault of any kind.
 pub fn fault(generator: &mut Generator) -> Fault {
     let block = generator.index(BOOK_BLOCKS);
