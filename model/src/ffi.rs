@@ -1,5 +1,5 @@
-//! The engine's C interface in safe Rust. Every place that the engine is to fill is
-//! given to it full of a filler first, so that what it leaves out shows.
+//! The engine's C interface in safe Rust. Every place that the engine is to fill
+//! holds a filler before the call, so that what it leaves out shows.
 
 #![allow(unsafe_code)]
 

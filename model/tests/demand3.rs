@@ -1,14 +1,17 @@
 //! Demand 3 on numbers: every step of many months beside the exact solution, and
 //! the balance between every two month ends of lists with refused calls in them.
 
+#[path = "support/month.rs"]
+mod month;
+
 use jurengate_model::book::{column, Row, D};
 use jurengate_model::cards::{curves, published};
-use jurengate_model::demand3::{audit_month, month_uptake, Ends, ExactRow, MonthFlow};
-use jurengate_model::engine::{birth, month};
-use jurengate_model::fast;
+use jurengate_model::demand3::{Ends, ExactRow};
 use jurengate_model::kinetics::step;
 use jurengate_model::random::{self, Generator, Range};
 use jurengate_model::state::{sum, State, BURDEN_LIMIT};
+use jurengate_model::{engine, fast};
+use month::check_month;
 use std::collections::BTreeSet;
 
 /// What a list of calls came to.
@@ -17,19 +20,7 @@ struct Counts {
     months: usize,
     /// Months accepted right after a refused call.
     resumed: usize,
-    steps: usize,
     refusals: BTreeSet<u32>,
-}
-
-/// Holds a month's steps to the margin and their flows to the month's ends.
-fn check_month(before: &State, after: &State, flow: &MonthFlow, uptake: u128) {
-    assert_eq!((flow.steps, flow.outside), (180, 0));
-    assert_eq!(flow.uptake, uptake);
-    for ledger in 0..3 {
-        let risen = u128::from(after.ledgers[ledger]) - u128::from(before.ledgers[ledger]);
-        assert_eq!(flow.exits[ledger], risen);
-    }
-    assert_eq!(after.month, before.month + 1);
 }
 
 /// The files of one call, now and then with a fault in them.
@@ -48,7 +39,7 @@ fn check_list(generator: &mut Generator, start: State, calls: usize, range: Rang
     for _ in 0..calls {
         let (site, book) = call_files(generator, range);
         let answer = fast::month(&site, &book, &state);
-        assert_eq!(month(&site, &book, &state), answer);
+        assert_eq!(engine::month(&site, &book, &state), answer);
         if answer.number != 0 {
             assert_eq!(answer.state, state);
             counts.refusals.insert(answer.number);
@@ -56,12 +47,8 @@ fn check_list(generator: &mut Generator, start: State, calls: usize, range: Rang
             continue;
         }
         counts.resumed += usize::from(std::mem::take(&mut after_refusal));
-        let uptake = month_uptake(&site, &book, state.month).unwrap();
-        let (end, flow) = audit_month(&site, &book, &state).unwrap();
-        assert_eq!(end, answer.state);
-        check_month(&state, &answer.state, &flow, uptake);
-        ends.note(answer.state, uptake);
-        (counts.months, counts.steps, state) = (counts.months + 1, counts.steps + flow.steps, answer.state);
+        ends.note(answer.state, check_month(&site, &book, &state, &answer.state));
+        (counts.months, state) = (counts.months + 1, answer.state);
     }
     assert_eq!(ends.balance(), Ok(counts.months * (counts.months + 1) / 2), "every two ends balance");
     counts
@@ -70,15 +57,12 @@ fn check_list(generator: &mut Generator, start: State, calls: usize, range: Rang
 #[test]
 fn the_default_child_through_all_84_months() {
     let (site, book) = (published::site(), curves::book());
-    let mut state = birth(&site, &book).state;
+    let mut state = engine::birth(&site, &book).state;
     let mut ends = Ends::default();
     ends.note(state, 0);
     for _ in 0..84 {
-        let uptake = month_uptake(&site, &book, state.month).unwrap();
-        let (end, flow) = audit_month(&site, &book, &state).unwrap();
-        assert_eq!(end, fast::month(&site, &book, &state).state);
-        check_month(&state, &end, &flow, uptake);
-        ends.note(end, uptake);
+        let end = fast::month(&site, &book, &state).state;
+        ends.note(end, check_month(&site, &book, &state, &end));
         state = end;
     }
     assert_eq!(ends.balance(), Ok(85 * 84 / 2));
@@ -87,16 +71,17 @@ fn the_default_child_through_all_84_months() {
 #[test]
 fn random_lists_of_births_and_months() {
     let mut generator = Generator::new(31);
-    let (mut steps, mut resumed, mut refusals) = (0, 0, BTreeSet::new());
+    let (mut months, mut resumed, mut refusals) = (0, 0, BTreeSet::new());
     for turn in 0..24 {
         let range = Range::of_turn(turn);
-        let newborn = birth(&random::site(&mut generator, range), &random::book(&mut generator, range));
+        let newborn =
+            engine::birth(&random::site(&mut generator, range), &random::book(&mut generator, range));
         let counts = check_list(&mut generator, newborn.state, 100, range);
-        steps += counts.steps;
+        months += counts.months;
         resumed += counts.resumed;
         refusals.extend(counts.refusals);
     }
-    assert!(steps > 100_000, "{steps} steps");
+    assert!(months > 600, "{months} months");
     assert!(resumed > 200, "{resumed} months after a refused call");
     // 2 and 20 cannot come: a month call has no list, and what it got is a state.
     assert_eq!(refusals, BTreeSet::from([1, 3, 4, 5, 6, 7, 8, 9, 21, 22]));
@@ -105,13 +90,12 @@ fn random_lists_of_births_and_months() {
 #[test]
 fn random_states_up_to_the_limit() {
     let mut generator = Generator::new(32);
-    let mut steps = 0;
+    let mut months = 0;
     for turn in 0..400 {
-        let range = Range::of_turn(turn);
         let state = random::state(&mut generator, false);
-        steps += check_list(&mut generator, state, 2, range).steps;
+        months += check_list(&mut generator, state, 2, Range::of_turn(turn)).months;
     }
-    assert!(steps > 40_000, "{steps} steps");
+    assert!(months > 230, "{months} months");
 }
 
 #[test]

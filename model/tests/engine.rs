@@ -1,8 +1,11 @@
 //! The engine held to the model, call by call (feature `engine`).
 
+#[path = "support/month.rs"]
+mod month;
+
 use jurengate_model::block::{self, BLOCK_BYTES, BODY_BYTES};
 use jurengate_model::cards::{self, curves, published};
-use jurengate_model::demand3::{audit_month, month_uptake, Ends};
+use jurengate_model::demand3::{month_uptake, Ends};
 use jurengate_model::kinetics::step_uptake;
 use jurengate_model::random::{self, damaged, file_faults, row_faults, Fault, Generator, Range, INTAKES};
 use jurengate_model::refusal::number_of;
@@ -10,6 +13,7 @@ use jurengate_model::site::{self, place, AGES, SITE_FIELDS};
 use jurengate_model::state::{State, BURDEN_LIMIT, MONTHS};
 use jurengate_model::uptake::age_of;
 use jurengate_model::{engine, ffi};
+use month::check_month;
 use std::sync::atomic::{AtomicUsize, Ordering};
 
 /// Lent lists are filled with this beforehand.
@@ -127,6 +131,7 @@ fn random_whole_runs() {
         let length = list_length(&mut generator);
         comparison.run(&site, &book, length);
     }
+    assert!(comparison.accepted > 300, "runs to the end");
 }
 
 #[test]
@@ -139,6 +144,7 @@ fn random_months_from_any_state() {
         comparison.birth(&site, &book);
         comparison.month(&site, &book, &random::any_state(&mut generator));
     }
+    assert!(comparison.accepted > 7_000, "births and months");
 }
 
 #[test]
@@ -334,7 +340,7 @@ fn call_files(generator: &mut Generator) -> (Vec<u8>, Vec<u8>) {
 fn demand_3_over_lists_of_calls() {
     let mut comparison = Comparison::new("lists of calls");
     let mut generator = Generator::new(109);
-    let (mut pairs, mut steps) = (0, 0);
+    let (mut pairs, mut months) = (0, 0);
     for _ in 0..40 {
         let mut ends = Ends::default();
         let (site, book) = call_files(&mut generator);
@@ -350,20 +356,14 @@ fn demand_3_over_lists_of_calls() {
             if answer.number != 0 {
                 continue;
             }
-            let uptake = month_uptake(&site, &book, state.month).expect("an accepted month has its uptake");
-            let (end, flow) = audit_month(&site, &book, &state).expect("the model accepts it too");
-            assert_eq!((end, flow.steps, flow.outside), (answer.state, 180, 0));
-            assert_eq!(flow.uptake, uptake);
-            for ledger in 0..3 {
-                let before = u128::from(state.ledgers[ledger]);
-                assert_eq!(before + flow.exits[ledger], u128::from(answer.state.ledgers[ledger]));
-            }
-            assert_eq!(answer.state.month, state.month + 1);
-            ends.note(answer.state, uptake);
-            steps += flow.steps;
-            state = answer.state;
+            ends.note(answer.state, check_month(&site, &book, &state, &answer.state));
+            (months, state) = (months + 1, answer.state);
         }
         pairs += ends.balance().expect("every two ends balance");
     }
-    println!("lists of calls: {pairs} pairs of month ends balanced, {steps} steps within the margin");
+    assert!(months > 1_500 && pairs > 30_000);
+    println!(
+        "lists of calls: {pairs} pairs of month ends balanced, {} steps within the margin",
+        180 * months
+    );
 }

@@ -3,7 +3,7 @@
 use jurengate_model::block::{write_block, BLOCK_BYTES, BODY_BYTES};
 use jurengate_model::book::{column, read_book, row_fields, RowFields, BLOCK_ROWS, BOOK_ROWS};
 use jurengate_model::cards::{self, curves, published};
-use jurengate_model::engine::{birth, month, run, RunAnswer};
+use jurengate_model::engine::{birth, month, run, MonthAnswer, RunAnswer};
 use jurengate_model::random::{
     damaged, fault, file_faults, row_faults, Fault, Generator, Intake, RowFault, INTAKES,
 };
@@ -48,8 +48,8 @@ fn every_file_fault_has_its_number_in_all_calls() {
             (number, State::default()),
             "{fault:?}"
         );
-        let answered = month(&site, &book, &state);
-        assert_eq!((answered.number, answered.state, answered.blood), (number, state, 0), "{fault:?}");
+        let refused = MonthAnswer { number, state, blood: 0 };
+        assert_eq!(month(&site, &book, &state), refused, "{fault:?}");
         let (answer, blood) = run_list(&site, &book);
         assert_eq!(answer, RunAnswer { number, state: State::default(), months: 0 }, "{fault:?}");
         assert_eq!(blood, [BEFORE; MONTHS]);
@@ -265,8 +265,8 @@ fn a_burden_over_the_limit_at_a_step_is_22_and_leaves_the_last_month() {
     assert!(answer.months >= 1 && answer.months < 84);
     assert_eq!(blood.iter().filter(|&&figure| figure != BEFORE).count(), answer.months as usize);
     let book = curves::book();
-    let answered = month(&diet_site(1_000_000_000), &book, &answer.state);
-    assert_eq!((answered.number, answered.state, answered.blood), (22, answer.state, 0));
+    let refused = MonthAnswer { number: 22, state: answer.state, blood: 0 };
+    assert_eq!(month(&diet_site(1_000_000_000), &book, &answer.state), refused);
 }
 
 #[test]
