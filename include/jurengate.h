@@ -34,6 +34,9 @@ extern "C" {
 /* Reads a site file of 512 bytes into its 94 fields; zeros where it is refused (1, 3 to 7). */
 uint32_t jurengate_read_site(const uint8_t *site, size_t site_len, uint32_t fields[94]);
 
+/* Reads a rate book of 8,704 bytes into its 85 rows of 23 numbers; zeros where it is refused (1, 3 to 6, 8). */
+uint32_t jurengate_read_book(const uint8_t *book, size_t book_len, uint32_t table[1955]);
+
 /* Writes a body of 508 bytes and its check into a target of 512; where a length is wrong (1) the target keeps its content. */
 uint32_t jurengate_write_block(const uint8_t *body, size_t body_len, uint8_t *target, size_t target_len);
 

@@ -57,6 +57,8 @@ pub mod column {
 
 /// A row as its bare fields.
 pub type RowFields = [u32; ROW_FIELDS];
+/// The rows of months 0 to 84 as their bare fields.
+pub type Table = [RowFields; BOOK_ROWS];
 
 /// A month's row.
 #[derive(Clone, Copy, Debug)]
@@ -172,4 +174,12 @@ pub fn read_book(book: &[u8]) -> Result<Book, Refusal> {
         rows.extend(read_block(block, number)?);
     }
     Ok(Book { rows })
+}
+
+/// The bare fields of an accepted book.
+pub fn read_table(book: &[u8]) -> Result<Table, Refusal> {
+    read_book(book)?;
+    Ok(std::array::from_fn(|month| {
+        row_fields(&book[BLOCK_BYTES * (month / BLOCK_ROWS)..][..BLOCK_BYTES], month % BLOCK_ROWS)
+    }))
 }

@@ -3,6 +3,7 @@
 
 #![allow(unsafe_code)]
 
+use crate::book::{Table, BOOK_ROWS, ROW_FIELDS};
 use crate::engine::{BirthAnswer, MonthAnswer, RunAnswer};
 use crate::site::SITE_FIELDS;
 use crate::state::State;
@@ -14,6 +15,7 @@ const WIDE_FILLER: u64 = 0xA5A5_5A5A_C3C3_3C3C;
 
 extern "C" {
     fn jurengate_read_site(site: *const u8, site_len: usize, fields: *mut u32) -> u32;
+    fn jurengate_read_book(book: *const u8, book_len: usize, table: *mut u32) -> u32;
     fn jurengate_write_block(body: *const u8, body_len: usize, target: *mut u8, target_len: usize) -> u32;
     fn jurengate_birth(
         site: *const u8,
@@ -48,6 +50,14 @@ pub fn read_site(site: &[u8]) -> (u32, [u32; SITE_FIELDS]) {
     // SAFETY: the pointers span `site` and 94 writable fields.
     let number = unsafe { jurengate_read_site(site.as_ptr(), site.len(), fields.as_mut_ptr()) };
     (number, fields)
+}
+
+/// The engine's book reader: its number and the rows, zeros where refused.
+pub fn read_book(book: &[u8]) -> (u32, Table) {
+    let mut table = [[FILLER; ROW_FIELDS]; BOOK_ROWS];
+    // SAFETY: the pointers span `book` and 85 rows of 23 writable numbers.
+    let number = unsafe { jurengate_read_book(book.as_ptr(), book.len(), table.as_mut_ptr().cast()) };
+    (number, table)
 }
 
 /// The engine's block writer.

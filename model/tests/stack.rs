@@ -37,7 +37,7 @@ fn the_run_keeps_to_its_stack() {
     let lines = String::from_utf8(output.stdout).expect("text");
     let calls: Vec<_> = lines.lines().map(measured).collect();
     let names: Vec<&str> = calls.iter().map(|call| call.0.as_str()).collect();
-    assert_eq!(names, ["read_site", "write_block", "birth", "month", "run"]);
+    assert_eq!(names, ["read_site", "read_book", "write_block", "birth", "month", "run"]);
     assert!(calls.iter().all(|call| call.2 == 0), "{lines}");
-    assert!((TABLE_BYTES..RUN_STACK).contains(&calls[4].1), "{lines}");
+    assert!((TABLE_BYTES..RUN_STACK).contains(&calls[5].1), "{lines}");
 }
