@@ -1,4 +1,5 @@
 /* Peak stack of each call: the call runs in a thread whose stack was painted, and what is no longer paint is counted. */
+#define _POSIX_C_SOURCE 200809L
 #include <pthread.h>
 #include <stdint.h>
 #include <stdio.h>
@@ -7,16 +8,19 @@
 
 #include "jurengate.h"
 
-enum { STACK_BYTES = 1 << 20, SITE_BYTES = 512, BOOK_BYTES = 8704, MONTHS = 84, STATE_WORDS = 11, PAINT = 0xA5 };
+enum { STACK_BYTES = 1 << 20, PAGE_BYTES = 4096, PAINT = 0xA5 };
+enum { BODY_BYTES = 508, SITE_BYTES = 512, SITE_FIELDS = 94, BOOK_BYTES = 8704, TABLE_NUMBERS = 1955 };
+enum { MONTHS = 84, STATE_WORDS = 11 };
 
 static uint8_t site[SITE_BYTES], book[BOOK_BYTES];
 static uint64_t state[STATE_WORDS];
-static uint32_t figures[MONTHS], fields[94], blood, months, refusal;
+static uint32_t figures[MONTHS], fields[SITE_FIELDS], table[TABLE_NUMBERS], blood, months, refusal;
 static uint8_t target[SITE_BYTES];
 
 static void nothing(void) {}
 static void read_site(void) { refusal = jurengate_read_site(site, sizeof site, fields); }
-static void write_block(void) { refusal = jurengate_write_block(site, 508, target, sizeof target); }
+static void read_book(void) { refusal = jurengate_read_book(book, sizeof book, table); }
+static void write_block(void) { refusal = jurengate_write_block(site, BODY_BYTES, target, sizeof target); }
 static void birth(void) { refusal = jurengate_birth(site, sizeof site, book, sizeof book, state); }
 static void month(void) { refusal = jurengate_month(site, sizeof site, book, sizeof book, state, &blood); }
 static void run(void) { refusal = jurengate_run(site, sizeof site, book, sizeof book, figures, MONTHS, state, &months); }
@@ -28,7 +32,7 @@ static void *in_thread(void *call) {
 
 static size_t peak(void (*call)(void)) {
     static uint8_t *stack;
-    if (stack == NULL && posix_memalign((void **)&stack, 4096, STACK_BYTES) != 0) {
+    if (stack == NULL && posix_memalign((void **)&stack, PAGE_BYTES, STACK_BYTES) != 0) {
         exit(2);
     }
     memset(stack, PAINT, STACK_BYTES);
@@ -65,7 +69,8 @@ int main(int argc, char **argv) {
     fill(argv[2], book, sizeof book);
     size_t thread = peak(nothing);
     struct { const char *name; void (*call)(void); } calls[] = {
-        {"read_site", read_site}, {"write_block", write_block}, {"birth", birth}, {"month", month}, {"run", run},
+        {"read_site", read_site}, {"read_book", read_book}, {"write_block", write_block},
+        {"birth", birth}, {"month", month}, {"run", run},
     };
     for (size_t i = 0; i < sizeof calls / sizeof calls[0]; i++) {
         printf("%s: %zu bytes of stack", calls[i].name, peak(calls[i].call) - thread);

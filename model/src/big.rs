@@ -13,7 +13,7 @@ pub struct Big {
 }
 
 impl Big {
-    /// Nought.
+    /// Zero.
     pub const ZERO: Big = Big { limbs: [0; LIMBS] };
     /// One.
     pub const ONE: Big = {
@@ -43,7 +43,7 @@ impl Big {
             borrow = under || under_again;
             second
         });
-        assert!(!borrow, "difference below nought");
+        assert!(!borrow, "difference below zero");
         Big { limbs }
     }
 
@@ -152,7 +152,7 @@ mod tests {
     }
 
     #[test]
-    #[should_panic(expected = "below nought")]
+    #[should_panic(expected = "below zero")]
     fn a_negative_difference_panics() {
         let _ = Big::ONE.minus(Big::from(2u64));
     }

@@ -57,6 +57,8 @@ pub mod column {
 
 /// A row as its bare fields.
 pub type RowFields = [u32; ROW_FIELDS];
+/// The rows of months 0 to 84 as their bare fields.
+pub type Table = [RowFields; BOOK_ROWS];
 
 /// A month's row.
 #[derive(Clone, Copy, Debug)]
@@ -118,21 +120,21 @@ impl Row {
 
     /// The row limits of the paper.
     pub fn within_limits(&self) -> bool {
-        self.volumes_hold() && self.weights_hold() && self.rates_hold()
+        self.volumes_fit() && self.weights_fit() && self.rates_fit()
     }
 
-    fn volumes_hold(&self) -> bool {
+    fn volumes_fit(&self) -> bool {
         (1_000..=60_000).contains(&self.blood_volume)
             && self.plasma_volume >= 1
             && self.plasma_volume < self.blood_volume
     }
 
-    fn weights_hold(&self) -> bool {
+    fn weights_fit(&self) -> bool {
         let organs = [self.kidney, self.liver, self.other, self.trabecular, self.cortical];
         (2_000..=WEIGHT_MOST).contains(&self.body) && organs.iter().all(|&weight| weight <= WEIGHT_MOST)
     }
 
-    fn rates_hold(&self) -> bool {
+    fn rates_fit(&self) -> bool {
         let outflow = self.out.iter().sum::<u128>() + self.urine;
         let tissues = (0..TISSUES).all(|i| self.back[i] + self.exit[i] <= D && self.exit[i] <= EXIT_MOST);
         self.out[0] >= 1 && outflow <= OUTFLOW_MOST && tissues
@@ -172,4 +174,12 @@ pub fn read_book(book: &[u8]) -> Result<Book, Refusal> {
         rows.extend(read_block(block, number)?);
     }
     Ok(Book { rows })
+}
+
+/// The bare fields of an accepted book.
+pub fn read_table(book: &[u8]) -> Result<Table, Refusal> {
+    read_book(book)?;
+    Ok(std::array::from_fn(|month| {
+        row_fields(&book[BLOCK_BYTES * (month / BLOCK_ROWS)..][..BLOCK_BYTES], month % BLOCK_ROWS)
+    }))
 }

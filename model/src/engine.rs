@@ -118,7 +118,7 @@ pub fn walk_month(
 }
 
 /// A month without a watcher.
-fn live_month(site: &Site, book: &Book, state: &State) -> Result<(State, u32), Refusal> {
+fn step_month(site: &Site, book: &Book, state: &State) -> Result<(State, u32), Refusal> {
     walk_month(site, book, state, &mut |_| {})
 }
 
@@ -144,7 +144,7 @@ fn inspect_state(state: &State) -> Result<(), Refusal> {
 fn try_month(site: &[u8], book: &[u8], state: &State) -> Result<(State, u32), Refusal> {
     let (site, book) = read_files(site, book)?;
     inspect_state(state)?;
-    live_month(&site, &book, state)
+    step_month(&site, &book, state)
 }
 
 /// The month call.
@@ -159,7 +159,8 @@ pub fn month(site: &[u8], book: &[u8], state: &State) -> MonthAnswer {
 pub fn run(site: &[u8], book: &[u8], blood: &mut [u32]) -> RunAnswer {
     let list = if blood.len() == MONTHS { Ok(()) } else { Err(Refusal::BloodList) };
     let mut done = RunAnswer { number: ACCEPTED, state: State::default(), months: 0 };
-    let outcome = read_both(site, book, list).and_then(|(site, book)| live(&site, &book, blood, &mut done));
+    let outcome =
+        read_both(site, book, list).and_then(|(site, book)| run_months(&site, &book, blood, &mut done));
     if let Err(refusal) = outcome {
         done.number = refusal.number();
     }
@@ -167,10 +168,10 @@ pub fn run(site: &[u8], book: &[u8], blood: &mut [u32]) -> RunAnswer {
 }
 
 /// Birth and the months, `done` and the list kept up to the last month end.
-fn live(site: &Site, book: &Book, blood: &mut [u32], done: &mut RunAnswer) -> Result<(), Refusal> {
+fn run_months(site: &Site, book: &Book, blood: &mut [u32], done: &mut RunAnswer) -> Result<(), Refusal> {
     done.state = newborn(site, book)?;
     for figure in blood.iter_mut() {
-        (done.state, *figure) = live_month(site, book, &done.state)?;
+        (done.state, *figure) = step_month(site, book, &done.state)?;
         done.months += 1;
     }
     Ok(())

@@ -5,131 +5,142 @@
 //! Why 64 bits hold: Mi × D and n × D are at most 5×10^10 × 10^8 = 5×10^18, and
 //! since bi/Ei ≤ 1/2, d ≥ D + ai/2, so Mi × D + ai × p ≤ 10^19.
 
+use crate::block::{BLOCK_BYTES, BODY_BYTES, EDITION, EDITION_AT, FIELDS_AT, FIELD_BYTES, NUMBER_AT};
+use crate::book::{self, column, RowFields, BLOCK_FIELDS, BLOCK_ROWS, BOOK_BYTES, BOOK_ROWS, ROW_FIELDS};
 use crate::engine::{BirthAnswer, MonthAnswer, RunAnswer};
-use crate::state::State;
+use crate::refusal::{Refusal, ACCEPTED};
+use crate::site::{place, AGES, SATURATION_LEAST, SHARES_MOST, SITE_FIELDS, SITE_NUMBER};
+use crate::state::{self, compartment, State, COMPARTMENTS, LEDGERS, MONTHS, MONTH_LIMIT, TISSUES};
+use crate::uptake;
 
-const D: u64 = 100_000_000;
-const BLOCK: usize = 512;
-const BODY: usize = 508;
-const BOOK: usize = 17 * BLOCK;
-const ROWS: usize = 85;
-const ROW_FIELDS: usize = 23;
-const SITE_FIELDS: usize = 94;
-const MONTHS: usize = 84;
-const BURDEN_MOST: u64 = 50_000_000_000;
-const MONTH_MOST: u128 = 180_000_000_000;
-const INTAKE_MOST: u64 = 1_000_000_000;
+const D: u64 = book::D as u64;
+const BURDEN_LIMIT: u64 = state::BURDEN_LIMIT as u64;
+const INTAKE_MOST: u64 = uptake::INTAKE_MOST as u64;
 
-/// Highest value of each site field.
+/// Highest value of each field that has one per age, but for percentages.
+const AGED_MOST: [(usize, u32); 9] = [
+    (place::AIR, 100_000_000),
+    (place::HOURS_OUT, 24),
+    (place::BREATHING, 100_000),
+    (place::DIET, 1_000_000_000),
+    (place::WATER_AMOUNT, 10_000),
+    (place::SOIL, 50_000_000),
+    (place::DUST, 50_000_000),
+    (place::EATEN, 1_000),
+    (place::ALTERNATE, 1_000_000_000),
+];
+
+/// Highest value of each single field, but for percentages and shares.
+const SINGLE_MOST: [(usize, u32); 9] = [
+    (place::AIR_TO_DUST, 10_000),
+    (place::DUST_MODE, 1),
+    (place::WATER_MODE, 1),
+    (place::CONSTANT_WATER, 10_000_000),
+    (place::FLUSHED, 10_000_000),
+    (place::FIRST_DRAW, 10_000_000),
+    (place::FOUNTAIN, 10_000_000),
+    (place::SATURATION, 500_000_000),
+    (place::MOTHER, 100_000),
+];
+
+/// Highest value of each site field, 100 for every percentage and share.
 const SITE_MOST: [u32; SITE_FIELDS] = site_most();
 
 const fn site_most() -> [u32; SITE_FIELDS] {
-    const GROUPS: [u32; 10] =
-        [100_000_000, 24, 100_000, 100, 1_000_000_000, 10_000, 50_000_000, 50_000_000, 1_000, 1_000_000_000];
-    const SINGLES: [u32; 24] = [
-        100,
-        100,
-        100,
-        10_000,
-        1,
-        1,
-        10_000_000,
-        10_000_000,
-        10_000_000,
-        10_000_000,
-        100,
-        100,
-        100,
-        100,
-        100,
-        100,
-        100,
-        100,
-        100,
-        100,
-        100,
-        100,
-        500_000_000,
-        100_000,
-    ];
-    let mut most = [0; SITE_FIELDS];
+    let mut most = [100; SITE_FIELDS];
     let mut index = 0;
-    while index < SITE_FIELDS {
-        most[index] = if index < 70 { GROUPS[index / 7] } else { SINGLES[index - 70] };
+    while index < AGES * AGED_MOST.len() {
+        let (from, value) = AGED_MOST[index / AGES];
+        most[from + index % AGES] = value;
+        index += 1;
+    }
+    index = 0;
+    while index < SINGLE_MOST.len() {
+        let (at, value) = SINGLE_MOST[index];
+        most[at] = value;
         index += 1;
     }
     most
 }
 
 type Fields = [u32; SITE_FIELDS];
-type Rows = [[u32; ROW_FIELDS]; ROWS];
+type Rows = [RowFields; BOOK_ROWS];
 
-fn word(bytes: &[u8], at: usize) -> u32 {
+fn word16(bytes: &[u8], at: usize) -> u16 {
+    u16::from_le_bytes(bytes[at..at + 2].try_into().unwrap())
+}
+
+fn word32(bytes: &[u8], at: usize) -> u32 {
     u32::from_le_bytes(bytes[at..at + 4].try_into().unwrap())
 }
 
+fn field(block: &[u8], index: usize) -> u32 {
+    word32(block, FIELDS_AT + FIELD_BYTES * index)
+}
+
 /// Refusals 3 to 6.
-fn inspect(block: &[u8; BLOCK], number: u16, fields: usize) -> Result<(), u32> {
+fn inspect(block: &[u8; BLOCK_BYTES], number: u16, fields: usize) -> Result<(), Refusal> {
     let mut check = 0u32;
-    for (position, pair) in (1u32..).zip(block[..BODY].chunks_exact(2)) {
+    for (position, pair) in (1u32..).zip(block[..BODY_BYTES].chunks_exact(2)) {
         check += position * u32::from(u16::from_le_bytes([pair[0], pair[1]]));
     }
-    if check != word(block, BODY) {
-        return Err(3);
+    if check != word32(block, BODY_BYTES) {
+        return Err(Refusal::Check);
     }
-    if u16::from_le_bytes([block[2], block[3]]) != 1 {
-        return Err(4);
+    if word16(block, EDITION_AT) != EDITION {
+        return Err(Refusal::Edition);
     }
-    if u16::from_le_bytes([block[0], block[1]]) != number {
-        return Err(5);
+    if word16(block, NUMBER_AT) != number {
+        return Err(Refusal::Number);
     }
-    if block[4 + 4 * fields..BODY].iter().any(|&byte| byte != 0) {
-        return Err(6);
+    if block[FIELDS_AT + FIELD_BYTES * fields..BODY_BYTES].iter().any(|&byte| byte != 0) {
+        return Err(Refusal::Reserved);
     }
     Ok(())
 }
 
-fn read_site(block: &[u8; BLOCK]) -> Result<Fields, u32> {
-    inspect(block, 0, SITE_FIELDS)?;
-    let mut fields = [0; SITE_FIELDS];
-    for (index, field) in fields.iter_mut().enumerate() {
-        *field = word(block, 4 + 4 * index);
-    }
+fn read_site(block: &[u8; BLOCK_BYTES]) -> Result<Fields, Refusal> {
+    inspect(block, SITE_NUMBER, SITE_FIELDS)?;
+    let fields: Fields = std::array::from_fn(|index| field(block, index));
     let over = fields.iter().zip(&SITE_MOST).any(|(field, most)| field > most);
-    if over || fields[92] < 1_000_000 || fields[80] + fields[81] > 100 {
-        return Err(7);
+    if over
+        || fields[place::SATURATION] < SATURATION_LEAST
+        || fields[place::FIRST_DRAW_SHARE] + fields[place::FOUNTAIN_SHARE] > SHARES_MOST
+    {
+        return Err(Refusal::SiteLimits);
     }
     Ok(fields)
 }
 
 /// The row limits.
-fn row_holds(row: &[u32; ROW_FIELDS]) -> bool {
+fn row_fits(row: &RowFields) -> bool {
     let d = D as u32;
-    let outflow: u64 = row[8..15].iter().map(|&rate| u64::from(rate)).sum();
-    (1_000..=60_000).contains(&row[0])
-        && (1..row[0]).contains(&row[1])
-        && (2_000..=50_000).contains(&row[2])
-        && row[3..8].iter().all(|&weight| weight <= 50_000)
-        && row[8] >= 1
+    let outflow: u64 = row[column::OUT..column::BACK].iter().map(|&rate| u64::from(rate)).sum();
+    (1_000..=60_000).contains(&row[column::VB])
+        && (1..row[column::VB]).contains(&row[column::VP])
+        && (2_000..=50_000).contains(&row[column::BODY])
+        && row[column::KIDNEY..column::OUT].iter().all(|&weight| weight <= 50_000)
+        && row[column::OUT] >= 1
         && outflow <= 64 * D
-        && row[15..21].iter().all(|&back| back <= d)
-        && row[21] <= d / 2
-        && row[22] <= d / 2
-        && row[16] + row[21] <= d
-        && row[18] + row[22] <= d
+        && row[column::BACK..column::FAECES].iter().all(|&back| back <= d)
+        && row[column::FAECES] <= d / 2
+        && row[column::SKIN] <= d / 2
+        && row[column::BACK + book::FAECES_EXIT] + row[column::FAECES] <= d
+        && row[column::BACK + book::SKIN_EXIT] + row[column::SKIN] <= d
 }
 
-fn read_book(book: &[u8; BOOK]) -> Result<Box<Rows>, u32> {
-    let mut rows = Box::new([[0; ROW_FIELDS]; ROWS]);
-    for (number, block) in book.chunks_exact(BLOCK).enumerate() {
-        let block: &[u8; BLOCK] = block.try_into().unwrap();
-        inspect(block, number as u16, 5 * ROW_FIELDS)?;
-        for (index, row) in rows[5 * number..5 * number + 5].iter_mut().enumerate() {
-            for (field, value) in row.iter_mut().enumerate() {
-                *value = word(block, 4 + 4 * (ROW_FIELDS * index + field));
+fn read_book(book: &[u8; BOOK_BYTES]) -> Result<Box<Rows>, Refusal> {
+    let mut rows = Box::new([[0; ROW_FIELDS]; BOOK_ROWS]);
+    for (number, block) in book.chunks_exact(BLOCK_BYTES).enumerate() {
+        let block: &[u8; BLOCK_BYTES] = block.try_into().unwrap();
+        inspect(block, number as u16, BLOCK_FIELDS)?;
+        let block_rows = &mut rows[BLOCK_ROWS * number..BLOCK_ROWS * (number + 1)];
+        for (index, row) in block_rows.iter_mut().enumerate() {
+            for (column, value) in row.iter_mut().enumerate() {
+                *value = field(block, ROW_FIELDS * index + column);
             }
-            if !row_holds(row) {
-                return Err(8);
+            if !row_fits(row) {
+                return Err(Refusal::BookLimits);
             }
         }
     }
@@ -137,41 +148,51 @@ fn read_book(book: &[u8; BOOK]) -> Result<Box<Rows>, u32> {
 }
 
 /// Both files, with the run's list length looked at where refusal 2 is due.
-fn read(site: &[u8], book: &[u8], list: usize) -> Result<(Fields, Box<Rows>), u32> {
+fn read(site: &[u8], book: &[u8], list: usize) -> Result<(Fields, Box<Rows>), Refusal> {
     let (Ok(site), Ok(book)) = (site.try_into(), book.try_into()) else {
-        return Err(1);
+        return Err(Refusal::Length);
     };
     if list != MONTHS {
-        return Err(2);
+        return Err(Refusal::BloodList);
     }
     Ok((read_site(site)?, read_book(book)?))
 }
 
 /// T of a month, or refusal 9.
-fn day_uptake(f: &Fields, rows: &Rows, month: usize) -> Result<u64, u32> {
+fn day_uptake(f: &Fields, rows: &Rows, month: usize) -> Result<u64, Refusal> {
     let age = (month - 1) / 12;
     let at = |index: usize| u64::from(f[index]);
-    let group = |group: usize| at(7 * group + age);
-    let (out, weight_soil) = (group(1), at(71));
-    let air = group(0) * (100 * out + (24 - out) * at(70)) * group(2) / 2_400_000;
-    let water = if f[75] == 0 {
-        group(5) * at(76)
+    let aged = |from: usize| at(from + age);
+    let (out, weight_soil) = (aged(place::HOURS_OUT), at(place::WEIGHT_SOIL));
+    let hours = 100 * out + (24 - out) * at(place::INDOOR);
+    let air = aged(place::AIR) * hours * aged(place::BREATHING) / 2_400_000;
+    let water = if f[place::WATER_MODE] == 0 {
+        aged(place::WATER_AMOUNT) * at(place::CONSTANT_WATER)
     } else {
-        group(5) * (at(77) * (100 - at(80) - at(81)) + at(78) * at(80) + at(79) * at(81)) / 100
+        let (first, fountain) = (at(place::FIRST_DRAW_SHARE), at(place::FOUNTAIN_SHARE));
+        let mixed = at(place::FLUSHED) * (100 - first - fountain)
+            + at(place::FIRST_DRAW) * first
+            + at(place::FOUNTAIN) * fountain;
+        aged(place::WATER_AMOUNT) * mixed / 100
     };
-    let dust = if f[74] == 0 { group(7) } else { (10 * at(72) * group(6) + at(73) * group(0)) / 1000 };
-    let soil_eaten = group(6) * group(8) * weight_soil / 100;
-    let dust_eaten = dust * group(8) * (100 - weight_soil) / 100;
+    let dust = if f[place::DUST_MODE] == 0 {
+        aged(place::DUST)
+    } else {
+        (10 * at(place::CONTRIBUTION) * aged(place::SOIL) + at(place::AIR_TO_DUST) * aged(place::AIR)) / 1000
+    };
+    let soil_eaten = aged(place::SOIL) * aged(place::EATEN) * weight_soil / 100;
+    let dust_eaten = dust * aged(place::EATEN) * (100 - weight_soil) / 100;
     if air.max(water).max(soil_eaten).max(dust_eaten) > INTAKE_MOST {
-        return Err(9);
+        return Err(Refusal::Intake);
     }
-    let saturation = at(92) * u64::from(rows[month][2]) / u64::from(rows[24][2]);
-    let eaten = [group(4), water, dust_eaten, soil_eaten, group(9)];
-    let q: [u64; 5] = std::array::from_fn(|medium| at(82 + medium) * eaten[medium] / 100);
+    let weight = |month: usize| u64::from(rows[month][column::BODY]);
+    let saturation = at(place::SATURATION) * weight(month) / weight(uptake::SATURATION_MONTH);
+    let eaten = [aged(place::DIET), water, dust_eaten, soil_eaten, aged(place::ALTERNATE)];
+    let q: [u64; 5] = std::array::from_fn(|medium| at(place::ABSORBED + medium) * eaten[medium] / 100);
     let total = saturation + q.iter().sum::<u64>();
-    let mut uptake = group(3) * air / 100;
+    let mut uptake = aged(place::AIR_ABSORBED) * air / 100;
     for (medium, q) in q.iter().enumerate() {
-        let passive = at(87 + medium) * q / 100;
+        let passive = at(place::PASSIVE + medium) * q / 100;
         // The product is at most 10^9 × 1.25×10^10.
         uptake += passive + (q - passive) * saturation / total;
     }
@@ -180,24 +201,24 @@ fn day_uptake(f: &Fields, rows: &Rows, month: usize) -> Result<u64, u32> {
 
 /// Rates and divisors of a month.
 struct Rates {
-    out: [u64; 6],
-    back: [u64; 6],
-    e: [u64; 6],
+    out: [u64; TISSUES],
+    back: [u64; TISSUES],
+    e: [u64; TISSUES],
     d: u64,
     urine: u64,
     faeces: u64,
     skin: u64,
 }
 
-fn rates(row: &[u32; ROW_FIELDS]) -> Rates {
+fn rates(row: &RowFields) -> Rates {
     let at = |index: usize| u64::from(row[index]);
-    let (urine, faeces, skin) = (at(14), at(21), at(22));
+    let (urine, faeces, skin) = (at(column::URINE), at(column::FAECES), at(column::SKIN));
     let exit = [0, faeces, 0, skin, 0, 0];
-    let (mut out, mut back, mut e) = ([0; 6], [0; 6], [0; 6]);
+    let (mut out, mut back, mut e) = ([0; TISSUES], [0; TISSUES], [0; TISSUES]);
     let mut d = D + urine;
-    for i in 0..6 {
-        out[i] = at(8 + i);
-        back[i] = at(15 + i);
+    for i in 0..TISSUES {
+        out[i] = at(column::OUT + i);
+        back[i] = at(column::BACK + i);
         e[i] = D + back[i] + exit[i];
         d += out[i] - out[i] * back[i] / e[i];
     }
@@ -205,24 +226,31 @@ fn rates(row: &[u32; ROW_FIELDS]) -> Rates {
 }
 
 /// One step; burden plus uptake is already known to be in bounds.
-fn step(r: &Rates, old: [u64; 7], burden: u64, uptake: u64) -> ([u64; 7], [u64; 3]) {
-    let mut n = old[0] + uptake;
-    for i in 0..6 {
+fn step(
+    r: &Rates,
+    old: [u64; COMPARTMENTS],
+    burden: u64,
+    uptake: u64,
+) -> ([u64; COMPARTMENTS], [u64; LEDGERS]) {
+    let mut n = old[compartment::PLASMA] + uptake;
+    for i in 0..TISSUES {
         n += r.back[i] * old[i + 1] / r.e[i];
     }
     let p = n * D / r.d;
-    let mut new = [0; 7];
+    let mut new = [0; COMPARTMENTS];
     let mut elsewhere = 0;
-    for i in 0..6 {
+    for i in 0..TISSUES {
         new[i + 1] = (old[i + 1] * D + r.out[i] * p) / r.e[i];
         elsewhere += new[i + 1];
     }
-    let exits = [r.urine * p / D, r.faeces * new[2] / D, r.skin * new[4] / D];
-    new[0] = burden + uptake - elsewhere - exits[0] - exits[1] - exits[2];
+    let exits =
+        [r.urine * p / D, r.faeces * new[compartment::LIVER] / D, r.skin * new[compartment::OTHER] / D];
+    new[compartment::PLASMA] = burden + uptake - elsewhere - exits[0] - exits[1] - exits[2];
     (new, exits)
 }
 
-fn live_month(f: &Fields, rows: &Rows, mut state: State) -> Result<(State, u32), u32> {
+/// The 180 steps of the month after `state`'s.
+fn step_month(f: &Fields, rows: &Rows, mut state: State) -> Result<(State, u32), Refusal> {
     let month = state.month as usize + 1;
     let row = &rows[month];
     let t = day_uptake(f, rows, month)?;
@@ -231,8 +259,8 @@ fn live_month(f: &Fields, rows: &Rows, mut state: State) -> Result<(State, u32),
     for _day in 0..30 {
         for uptake in shares {
             let burden: u64 = state.compartments.iter().sum();
-            if burden + uptake > BURDEN_MOST {
-                return Err(22);
+            if burden + uptake > BURDEN_LIMIT {
+                return Err(Refusal::Burden);
             }
             let (compartments, exits) = step(&rates, state.compartments, burden, uptake);
             state.compartments = compartments;
@@ -245,47 +273,46 @@ fn live_month(f: &Fields, rows: &Rows, mut state: State) -> Result<(State, u32),
     Ok((state, blood(row, &state)))
 }
 
-fn blood(row: &[u32; ROW_FIELDS], state: &State) -> u32 {
-    let (vb, vp) = (u64::from(row[0]), u64::from(row[1]));
-    let plasma = state.compartments[0] * vp / (73 * vb / 100 + vp);
-    ((state.compartments[1] + plasma) / vb) as u32
+fn blood(row: &RowFields, state: &State) -> u32 {
+    let (vb, vp) = (u64::from(row[column::VB]), u64::from(row[column::VP]));
+    let plasma = state.compartments[compartment::PLASMA] * vp / (73 * vb / 100 + vp);
+    ((state.compartments[compartment::RED_CELLS] + plasma) / vb) as u32
 }
 
-fn newborn(f: &Fields, rows: &Rows) -> Result<State, u32> {
-    let row = &rows[0];
-    let at = |index: usize| u64::from(row[index]);
-    let pb = 85 * u64::from(f[93]) / 100;
-    let total = pb * at(0);
+fn newborn(f: &Fields, rows: &Rows) -> Result<State, Refusal> {
+    let at = |index: usize| u64::from(rows[0][index]);
+    let pb = 85 * u64::from(f[place::MOTHER]) / 100;
+    let total = pb * at(column::VB);
     // total × b1 is at most 5.1×10^9 × 10^8.
-    let plasma = total * at(15) / (at(8) + at(15));
+    let plasma = total * at(column::BACK) / (at(column::OUT) + at(column::BACK));
     let compartments = [
         plasma,
         total - plasma,
-        130 * pb * at(4) / 10,
-        106 * pb * at(3) / 10,
-        160 * pb * at(5) / 10,
-        512 * pb * at(6) / 10,
-        789 * pb * at(7) / 10,
+        130 * pb * at(column::LIVER) / 10,
+        106 * pb * at(column::KIDNEY) / 10,
+        160 * pb * at(column::OTHER) / 10,
+        512 * pb * at(column::TRABECULAR) / 10,
+        789 * pb * at(column::CORTICAL) / 10,
     ];
-    if compartments.iter().sum::<u64>() > BURDEN_MOST {
-        return Err(22);
+    if compartments.iter().sum::<u64>() > BURDEN_LIMIT {
+        return Err(Refusal::Burden);
     }
     Ok(State { compartments, ..State::default() })
 }
 
 /// Refusals 20 and 21; the numbers may be anything.
-fn inspect_state(state: &State) -> Result<(), u32> {
+fn inspect_state(state: &State) -> Result<(), Refusal> {
     let sum = |numbers: &[u64]| numbers.iter().map(|&n| u128::from(n)).sum::<u128>();
     let burden = sum(&state.compartments);
-    let most = u128::from(BURDEN_MOST);
+    let limit = u128::from(BURDEN_LIMIT);
     if state.month > MONTHS as u64
-        || burden > most
-        || burden + sum(&state.ledgers) > most + u128::from(state.month) * MONTH_MOST
+        || burden > limit
+        || burden + sum(&state.ledgers) > limit + u128::from(state.month) * MONTH_LIMIT
     {
-        return Err(20);
+        return Err(Refusal::NoState);
     }
     if state.month == MONTHS as u64 {
-        return Err(21);
+        return Err(Refusal::LastMonth);
     }
     Ok(())
 }
@@ -293,36 +320,36 @@ fn inspect_state(state: &State) -> Result<(), u32> {
 /// The birth call.
 pub fn birth(site: &[u8], book: &[u8]) -> BirthAnswer {
     match read(site, book, MONTHS).and_then(|(fields, rows)| newborn(&fields, &rows)) {
-        Ok(state) => BirthAnswer { number: 0, state },
-        Err(number) => BirthAnswer { number, state: State::default() },
+        Ok(state) => BirthAnswer { number: ACCEPTED, state },
+        Err(refusal) => BirthAnswer { number: refusal.number(), state: State::default() },
     }
 }
 
 /// The month call.
 pub fn month(site: &[u8], book: &[u8], state: &State) -> MonthAnswer {
-    let lived = read(site, book, MONTHS).and_then(|(fields, rows)| {
+    let outcome = read(site, book, MONTHS).and_then(|(fields, rows)| {
         inspect_state(state)?;
-        live_month(&fields, &rows, *state)
+        step_month(&fields, &rows, *state)
     });
-    match lived {
-        Ok((state, blood)) => MonthAnswer { number: 0, state, blood },
-        Err(number) => MonthAnswer { number, state: *state, blood: 0 },
+    match outcome {
+        Ok((state, blood)) => MonthAnswer { number: ACCEPTED, state, blood },
+        Err(refusal) => MonthAnswer { number: refusal.number(), state: *state, blood: 0 },
     }
 }
 
 /// The whole run.
 pub fn run(site: &[u8], book: &[u8], blood: &mut [u32]) -> RunAnswer {
-    let mut done = RunAnswer { number: 0, state: State::default(), months: 0 };
-    let lived = read(site, book, blood.len()).and_then(|(fields, rows)| {
+    let mut done = RunAnswer { number: ACCEPTED, state: State::default(), months: 0 };
+    let outcome = read(site, book, blood.len()).and_then(|(fields, rows)| {
         done.state = newborn(&fields, &rows)?;
         for figure in blood.iter_mut() {
-            (done.state, *figure) = live_month(&fields, &rows, done.state)?;
+            (done.state, *figure) = step_month(&fields, &rows, done.state)?;
             done.months += 1;
         }
         Ok(())
     });
-    if let Err(number) = lived {
-        done.number = number;
+    if let Err(refusal) = outcome {
+        done.number = refusal.number();
     }
     done
 }

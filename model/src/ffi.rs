@@ -1,19 +1,21 @@
-//! The engine's C interface in safe Rust. Every place that the engine is to fill is
-//! given to it full of rubbish first, so that what it leaves out shows.
+//! The engine's C interface in safe Rust. Every place that the engine is to fill
+//! holds a filler before the call, so that what it leaves out shows.
 
 #![allow(unsafe_code)]
 
+use crate::book::{Table, BOOK_ROWS, ROW_FIELDS};
 use crate::engine::{BirthAnswer, MonthAnswer, RunAnswer};
 use crate::site::SITE_FIELDS;
 use crate::state::State;
 
 /// What 32-bit places hold before a call.
-const RUBBISH: u32 = 0xA5A5_5A5A;
+const FILLER: u32 = 0xA5A5_5A5A;
 /// What 64-bit places hold before a call.
-const WIDE_RUBBISH: u64 = 0xA5A5_5A5A_C3C3_3C3C;
+const WIDE_FILLER: u64 = 0xA5A5_5A5A_C3C3_3C3C;
 
 extern "C" {
     fn jurengate_read_site(site: *const u8, site_len: usize, fields: *mut u32) -> u32;
+    fn jurengate_read_book(book: *const u8, book_len: usize, table: *mut u32) -> u32;
     fn jurengate_write_block(body: *const u8, body_len: usize, target: *mut u8, target_len: usize) -> u32;
     fn jurengate_birth(
         site: *const u8,
@@ -44,10 +46,18 @@ extern "C" {
 
 /// The engine's site reader: its number and the fields, zeros where refused.
 pub fn read_site(site: &[u8]) -> (u32, [u32; SITE_FIELDS]) {
-    let mut fields = [RUBBISH; SITE_FIELDS];
+    let mut fields = [FILLER; SITE_FIELDS];
     // SAFETY: the pointers span `site` and 94 writable fields.
     let number = unsafe { jurengate_read_site(site.as_ptr(), site.len(), fields.as_mut_ptr()) };
     (number, fields)
+}
+
+/// The engine's book reader: its number and the rows, zeros where refused.
+pub fn read_book(book: &[u8]) -> (u32, Table) {
+    let mut table = [[FILLER; ROW_FIELDS]; BOOK_ROWS];
+    // SAFETY: the pointers span `book` and 85 rows of 23 writable numbers.
+    let number = unsafe { jurengate_read_book(book.as_ptr(), book.len(), table.as_mut_ptr().cast()) };
+    (number, table)
 }
 
 /// The engine's block writer.
@@ -58,7 +68,7 @@ pub fn write_block(body: &[u8], target: &mut [u8]) -> u32 {
 
 /// The engine's birth.
 pub fn birth(site: &[u8], book: &[u8]) -> BirthAnswer {
-    let mut state = [WIDE_RUBBISH; 11];
+    let mut state = [WIDE_FILLER; 11];
     // SAFETY: the pointers span the two slices and eleven writable numbers.
     let number =
         unsafe { jurengate_birth(site.as_ptr(), site.len(), book.as_ptr(), book.len(), state.as_mut_ptr()) };
@@ -68,7 +78,7 @@ pub fn birth(site: &[u8], book: &[u8]) -> BirthAnswer {
 /// The engine's month.
 pub fn month(site: &[u8], book: &[u8], state: &State) -> MonthAnswer {
     let mut numbers = state.to_numbers();
-    let mut blood = RUBBISH;
+    let mut blood = FILLER;
     // SAFETY: the pointers span the two slices, eleven writable numbers and one figure.
     let number = unsafe {
         jurengate_month(
@@ -85,8 +95,8 @@ pub fn month(site: &[u8], book: &[u8], state: &State) -> MonthAnswer {
 
 /// The engine's run over a lent list.
 pub fn run(site: &[u8], book: &[u8], blood: &mut [u32]) -> RunAnswer {
-    let mut state = [WIDE_RUBBISH; 11];
-    let mut months = RUBBISH;
+    let mut state = [WIDE_FILLER; 11];
+    let mut months = FILLER;
     // SAFETY: the pointers span the slices, eleven writable numbers and one count.
     let number = unsafe {
         jurengate_run(

@@ -23,17 +23,6 @@ pub struct Key {
     decimals: usize,
 }
 
-/// A key with a figure per age.
-const fn aged(
-    name: &'static str,
-    unit: &'static str,
-    meaning: &'static str,
-    from: usize,
-    decimals: usize,
-) -> Key {
-    Key { name, unit, meaning, from, count: AGES, decimals }
-}
-
 /// A key with one figure.
 const fn single(
     name: &'static str,
@@ -45,18 +34,25 @@ const fn single(
     Key { name, unit, meaning, from, count: 1, decimals }
 }
 
+impl Key {
+    /// The same key with a figure per age.
+    const fn by_age(self) -> Key {
+        Key { count: AGES, ..self }
+    }
+}
+
 /// Every key, in the order of the site file.
 pub const KEYS: [Key; 34] = [
-    aged("air", "µg/m³", "lead in outdoor air", place::AIR, 6),
-    aged("hours_out", "h/day", "hours out of doors", place::HOURS_OUT, 0),
-    aged("breathing", "m³/day", "air breathed", place::BREATHING, 3),
-    aged("air_absorbed", "%", "share of breathed lead absorbed", place::AIR_ABSORBED, 0),
-    aged("diet", "µg/day", "lead eaten in food", place::DIET, 6),
-    aged("water_amount", "L/day", "water drunk", place::WATER_AMOUNT, 3),
-    aged("soil", "µg/g", "lead in soil", place::SOIL, 3),
-    aged("dust", "µg/g", "lead in house dust, used if dust_mode = 0", place::DUST, 3),
-    aged("eaten", "mg/day", "soil and dust eaten", place::EATEN, 0),
-    aged("alternate", "µg/day", "lead eaten otherwise, as paint", place::ALTERNATE, 6),
+    single("air", "µg/m³", "lead in outdoor air", place::AIR, 6).by_age(),
+    single("hours_out", "h/day", "hours out of doors", place::HOURS_OUT, 0).by_age(),
+    single("breathing", "m³/day", "air breathed", place::BREATHING, 3).by_age(),
+    single("air_absorbed", "%", "share of breathed lead absorbed", place::AIR_ABSORBED, 0).by_age(),
+    single("diet", "µg/day", "lead eaten in food", place::DIET, 6).by_age(),
+    single("water_amount", "L/day", "water drunk", place::WATER_AMOUNT, 3).by_age(),
+    single("soil", "µg/g", "lead in soil", place::SOIL, 3).by_age(),
+    single("dust", "µg/g", "lead in house dust, used if dust_mode = 0", place::DUST, 3).by_age(),
+    single("eaten", "mg/day", "soil and dust eaten", place::EATEN, 0).by_age(),
+    single("alternate", "µg/day", "lead eaten otherwise, as paint", place::ALTERNATE, 6).by_age(),
     single("indoor", "%", "indoor air lead, of outdoor", place::INDOOR, 0),
     single("weight_soil", "%", "share of soil in soil and dust eaten", place::WEIGHT_SOIL, 0),
     single("contribution", "%", "contribution of soil to dust", place::CONTRIBUTION, 0),
@@ -102,7 +98,7 @@ impl fmt::Display for Mistake {
 }
 
 impl Key {
-    /// A field's value as people write it, without needless noughts.
+    /// A field's value as people write it, without needless zeros.
     pub fn shown(&self, value: u32) -> String {
         let scale = 10u32.pow(self.decimals as u32);
         let (whole, part) = (value / scale, value % scale);

@@ -59,7 +59,7 @@ fn new_tissue(row: &Row, tissue: usize, old: u64, solution: u128) -> u128 {
     (u128::from(old) * D + row.out[tissue] * solution) / tissue_divisor(row, tissue)
 }
 
-/// Urine, faeces and skin, each reckoned from its own rate.
+/// Urine, faeces and skin, each computed from its own rate.
 fn exits(row: &Row, solution: u128, new: &[u64; COMPARTMENTS]) -> [u64; LEDGERS] {
     let mut exits = [0; LEDGERS];
     exits[ledger::URINE] = narrow(row.urine * solution / D);

@@ -2,8 +2,8 @@
 //! ("The counter box: IEUBK in whole numbers") and the agency's papers alone.
 //!
 //! The model is made to be read beside the paper, not to be fast: every sum is
-//! taken in 128 bits and checked. `fast` is a second, quick writing of the same
-//! rules, and `ffi` (feature `engine`) calls the engine itself.
+//! taken in 128 bits, and `cargo test` checks each for overflow. `fast` is a second,
+//! quick writing of the same rules, and `ffi` (feature `engine`) calls the engine itself.
 
 #![deny(unsafe_code)]
 #![warn(missing_docs)]
@@ -25,3 +25,15 @@ pub mod refusal;
 pub mod site;
 pub mod state;
 pub mod uptake;
+
+#[cfg(all(test, debug_assertions))]
+mod tests {
+    use std::hint::black_box;
+
+    /// What the tests rely on: in their profile no sum wraps unseen.
+    #[test]
+    #[should_panic(expected = "attempt to add with overflow")]
+    fn sums_are_checked_for_overflow() {
+        black_box(black_box(u128::MAX) + black_box(1));
+    }
+}

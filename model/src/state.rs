@@ -44,7 +44,7 @@ pub mod ledger {
 /// A child at a month end. What is handed in may hold any numbers at all.
 #[derive(Clone, Copy, Debug, Default, PartialEq, Eq)]
 pub struct State {
-    /// Months lived, 0 at birth.
+    /// Months since birth.
     pub month: u64,
     /// Lead in the seven compartments, pg.
     pub compartments: [u64; COMPARTMENTS],

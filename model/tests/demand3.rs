@@ -1,70 +1,68 @@
 //! Demand 3 on numbers: every step of many months beside the exact solution, and
 //! the balance between every two month ends of lists with refused calls in them.
 
+#[path = "support/month.rs"]
+mod month;
+
 use jurengate_model::book::{column, Row, D};
 use jurengate_model::cards::{curves, published};
-use jurengate_model::demand3::{audit_month, month_uptake, Ends, ExactRow, MonthFlow};
-use jurengate_model::engine::{birth, month};
+use jurengate_model::demand3::{Ends, ExactRow};
 use jurengate_model::kinetics::step;
-use jurengate_model::random::{self, Dice, Temper};
+use jurengate_model::random::{self, Generator, Range};
 use jurengate_model::state::{sum, State, BURDEN_LIMIT};
+use jurengate_model::{engine, fast};
+use month::check_month;
+use std::collections::BTreeSet;
 
 /// What a list of calls came to.
 #[derive(Default)]
-struct Tally {
+struct Counts {
     months: usize,
-    refused: usize,
-    steps: usize,
-    pairs: usize,
+    /// Months accepted right after a refused call.
+    resumed: usize,
+    refusals: BTreeSet<u32>,
 }
 
-/// Holds a month's steps to the margin and its flows to its ends.
-fn hold_month(before: &State, after: &State, flow: &MonthFlow, uptake: u128) {
-    assert_eq!((flow.steps, flow.outside), (180, 0));
-    assert_eq!(flow.uptake, uptake);
-    for ledger in 0..3 {
-        let risen = u128::from(after.ledgers[ledger]) - u128::from(before.ledgers[ledger]);
-        assert_eq!(flow.exits[ledger], risen);
-    }
-    assert_eq!(after.month, before.month + 1);
+/// The files of one call, now and then with a fault in them.
+fn call_files(generator: &mut Generator, range: Range) -> (Vec<u8>, Vec<u8>) {
+    let faults = usize::from(generator.once_in(5));
+    random::card(generator, range, faults)
 }
 
 /// A list of month calls from `start`, each with its own files; a refused one leaves the state.
-fn hold_list(dice: &mut Dice, start: State, calls: usize, temper: Temper) -> Tally {
-    let mut tally = Tally::default();
+/// The month ends are those of `fast`, which the watched steps of the model have to reach.
+fn check_list(generator: &mut Generator, start: State, calls: usize, range: Range) -> Counts {
+    let mut counts = Counts::default();
     let mut ends = Ends::default();
-    let mut state = start;
+    let (mut state, mut after_refusal) = (start, false);
     ends.note(state, 0);
     for _ in 0..calls {
-        let (site, book) = (random::site(dice, temper), random::book(dice, temper));
-        let answer = month(&site, &book, &state);
+        let (site, book) = call_files(generator, range);
+        let answer = fast::month(&site, &book, &state);
+        assert_eq!(engine::month(&site, &book, &state), answer);
         if answer.number != 0 {
             assert_eq!(answer.state, state);
-            tally.refused += 1;
+            counts.refusals.insert(answer.number);
+            after_refusal = true;
             continue;
         }
-        let uptake = month_uptake(&site, &book, state.month).unwrap();
-        let (end, flow) = audit_month(&site, &book, &state).unwrap();
-        assert_eq!(end, answer.state);
-        hold_month(&state, &end, &flow, uptake);
-        ends.note(end, uptake);
-        (tally.months, tally.steps, state) = (tally.months + 1, tally.steps + flow.steps, end);
+        counts.resumed += usize::from(std::mem::take(&mut after_refusal));
+        ends.note(answer.state, check_month(&site, &book, &state, &answer.state));
+        (counts.months, state) = (counts.months + 1, answer.state);
     }
-    tally.pairs = ends.balance().expect("every two ends balance");
-    tally
+    assert_eq!(ends.balance(), Ok(counts.months * (counts.months + 1) / 2), "every two ends balance");
+    counts
 }
 
 #[test]
 fn the_default_child_through_all_84_months() {
     let (site, book) = (published::site(), curves::book());
-    let mut state = birth(&site, &book).state;
+    let mut state = engine::birth(&site, &book).state;
     let mut ends = Ends::default();
     ends.note(state, 0);
     for _ in 0..84 {
-        let uptake = month_uptake(&site, &book, state.month).unwrap();
-        let (end, flow) = audit_month(&site, &book, &state).unwrap();
-        hold_month(&state, &end, &flow, uptake);
-        ends.note(end, uptake);
+        let end = fast::month(&site, &book, &state).state;
+        ends.note(end, check_month(&site, &book, &state, &end));
         state = end;
     }
     assert_eq!(ends.balance(), Ok(85 * 84 / 2));
@@ -72,39 +70,43 @@ fn the_default_child_through_all_84_months() {
 
 #[test]
 fn random_lists_of_births_and_months() {
-    let mut dice = Dice::new(31);
-    let mut steps = 0;
+    let mut generator = Generator::new(31);
+    let (mut months, mut resumed, mut refusals) = (0, 0, BTreeSet::new());
     for turn in 0..24 {
-        let temper = [Temper::Mild, Temper::Wide, Temper::Edge][turn % 3];
-        let newborn = birth(&random::site(&mut dice, temper), &random::book(&mut dice, temper));
-        let tally = hold_list(&mut dice, newborn.state, 100, temper);
-        assert!(tally.months + tally.refused == 100);
-        steps += tally.steps;
+        let range = Range::of_turn(turn);
+        let newborn =
+            engine::birth(&random::site(&mut generator, range), &random::book(&mut generator, range));
+        let counts = check_list(&mut generator, newborn.state, 100, range);
+        months += counts.months;
+        resumed += counts.resumed;
+        refusals.extend(counts.refusals);
     }
-    assert!(steps > 100_000, "{steps} steps");
+    assert!(months > 600, "{months} months");
+    assert!(resumed > 200, "{resumed} months after a refused call");
+    // 2 and 20 cannot come: a month call has no list, and what it got is a state.
+    assert_eq!(refusals, BTreeSet::from([1, 3, 4, 5, 6, 7, 8, 9, 21, 22]));
 }
 
 #[test]
 fn random_states_up_to_the_limit() {
-    let mut dice = Dice::new(32);
-    let mut steps = 0;
+    let mut generator = Generator::new(32);
+    let mut months = 0;
     for turn in 0..400 {
-        let temper = [Temper::Mild, Temper::Wide, Temper::Edge][turn % 3];
-        let state = random::state(&mut dice, false);
-        steps += hold_list(&mut dice, state, 2, temper).steps;
+        let state = random::state(&mut generator, false);
+        months += check_list(&mut generator, state, 2, Range::of_turn(turn)).months;
     }
-    assert!(steps > 40_000, "{steps} steps");
+    assert!(months > 230, "{months} months");
 }
 
 #[test]
 fn single_steps_of_extreme_rows_at_a_full_burden() {
-    let mut dice = Dice::new(33);
+    let mut generator = Generator::new(33);
     for _ in 0..20_000 {
-        let temper = random::temper(&mut dice);
-        let row = Row::of_fields(&random::row(&mut dice, temper, 24));
-        let before = random::state(&mut dice, false).compartments;
+        let range = random::range(&mut generator);
+        let row = Row::of_fields(&random::row(&mut generator, range, 24));
+        let before = random::state(&mut generator, false).compartments;
         let room = (BURDEN_LIMIT - sum(&before)) as u64;
-        let uptake = dice.edged(room.min(1_000_000_000));
+        let uptake = generator.at_limits(room.min(1_000_000_000));
         let after = step(&row, &before, uptake);
         let exact = ExactRow::of(&row);
         assert!(exact.margin_holds(&before, uptake, after.compartments[0]), "{row:?} {before:?} {uptake}");

@@ -1,15 +1,19 @@
 //! The engine held to the model, call by call (feature `engine`).
 
+#[path = "support/month.rs"]
+mod month;
+
 use jurengate_model::block::{self, BLOCK_BYTES, BODY_BYTES};
 use jurengate_model::cards::{self, curves, published};
-use jurengate_model::demand3::{audit_month, month_uptake, Ends};
+use jurengate_model::demand3::{month_uptake, Ends};
 use jurengate_model::kinetics::step_uptake;
-use jurengate_model::random::{self, damaged, row_faults, Dice, Fault, Temper, INTAKES};
+use jurengate_model::random::{self, damaged, file_faults, row_faults, Fault, Generator, Range, INTAKES};
 use jurengate_model::refusal::number_of;
 use jurengate_model::site::{self, place, AGES, SITE_FIELDS};
 use jurengate_model::state::{State, BURDEN_LIMIT, MONTHS};
 use jurengate_model::uptake::age_of;
 use jurengate_model::{engine, ffi};
+use month::check_month;
 use std::sync::atomic::{AtomicUsize, Ordering};
 
 /// Lent lists are filled with this beforehand.
@@ -19,15 +23,15 @@ const BEFORE: u32 = 0x5EED_5EED;
 static COMPARED: AtomicUsize = AtomicUsize::new(0);
 
 /// Counts the calls that were held to the model, and prints them at the end.
-struct Held {
+struct Comparison {
     what: &'static str,
     calls: usize,
     accepted: usize,
 }
 
-impl Held {
-    fn new(what: &'static str) -> Held {
-        Held { what, calls: 0, accepted: 0 }
+impl Comparison {
+    fn new(what: &'static str) -> Comparison {
+        Comparison { what, calls: 0, accepted: 0 }
     }
 
     fn count(&mut self, number: u32) -> u32 {
@@ -84,78 +88,76 @@ impl Held {
     }
 }
 
-impl Drop for Held {
+impl Drop for Comparison {
     fn drop(&mut self) {
         if !std::thread::panicking() {
             let all = COMPARED.fetch_add(self.calls, Ordering::Relaxed) + self.calls;
-            let Held { what, calls, accepted } = self;
+            let Comparison { what, calls, accepted } = self;
             println!("{what}: {calls} calls compared, {accepted} of them accepted; {all} compared so far");
         }
     }
 }
 
-fn turn_temper(turn: usize) -> Temper {
-    [Temper::Mild, Temper::Wide, Temper::Edge][turn % 3]
-}
-
 /// A length that is mostly the right one.
-fn list_length(dice: &mut Dice) -> usize {
-    match dice.index(6) {
-        0 => [0, 1, 42, 83, 85, 168][dice.index(6)],
+fn list_length(generator: &mut Generator) -> usize {
+    match generator.index(6) {
+        0 => [0, 1, 42, 83, 85, 168][generator.index(6)],
         _ => MONTHS,
     }
 }
 
 #[test]
 fn the_published_defaults() {
-    let mut held = Held::new("published defaults");
+    let mut comparison = Comparison::new("published defaults");
     let (site, book) = (published::site(), curves::book());
-    assert_eq!(held.read_site(&site), 0);
-    let whole = held.run(&site, &book, MONTHS);
+    assert_eq!(comparison.read_site(&site), 0);
+    let whole = comparison.run(&site, &book, MONTHS);
     assert_eq!((whole.number, whole.months), (0, 84));
-    let mut state = held.birth(&site, &book).state;
+    let mut state = comparison.birth(&site, &book).state;
     for _ in 0..MONTHS {
-        state = held.month(&site, &book, &state).state;
+        state = comparison.month(&site, &book, &state).state;
     }
     assert_eq!(state, whole.state);
-    assert_eq!(held.month(&site, &book, &state).number, 21);
+    assert_eq!(comparison.month(&site, &book, &state).number, 21);
 }
 
 #[test]
 fn random_whole_runs() {
-    let mut held = Held::new("whole runs");
-    let mut dice = Dice::new(101);
+    let mut comparison = Comparison::new("whole runs");
+    let mut generator = Generator::new(101);
     for turn in 0..600 {
-        let temper = turn_temper(turn);
-        let (site, book) = (random::site(&mut dice, temper), random::book(&mut dice, temper));
-        let length = list_length(&mut dice);
-        held.run(&site, &book, length);
+        let range = Range::of_turn(turn);
+        let (site, book) = random::card(&mut generator, range, 0);
+        let length = list_length(&mut generator);
+        comparison.run(&site, &book, length);
     }
+    assert!(comparison.accepted > 300, "runs to the end");
 }
 
 #[test]
 fn random_months_from_any_state() {
-    let mut held = Held::new("months from any state");
-    let mut dice = Dice::new(102);
+    let mut comparison = Comparison::new("months from any state");
+    let mut generator = Generator::new(102);
     for turn in 0..6_000 {
-        let temper = turn_temper(turn);
-        let (site, book) = (random::site(&mut dice, temper), random::book(&mut dice, temper));
-        held.birth(&site, &book);
-        held.month(&site, &book, &random::any_state(&mut dice));
+        let range = Range::of_turn(turn);
+        let (site, book) = random::card(&mut generator, range, 0);
+        comparison.birth(&site, &book);
+        comparison.month(&site, &book, &random::any_state(&mut generator));
     }
+    assert!(comparison.accepted > 7_000, "births and months");
 }
 
 #[test]
 fn states_at_and_past_each_limit() {
-    let mut held = Held::new("states at the limits");
-    let mut dice = Dice::new(103);
+    let mut comparison = Comparison::new("states at the limits");
+    let mut generator = Generator::new(103);
     let (site, book) = (published::site(), curves::book());
     let burden = 50_000_000_000u64;
     for place in 0..7 {
         for lead in [0, 1, burden - 1, burden, burden + 1, 1 << 63, u64::MAX] {
             let mut state = State::default();
             state.compartments[place] = lead;
-            held.month(&site, &book, &state);
+            comparison.month(&site, &book, &state);
         }
     }
     for month in [0, 1, 11, 12, 82, 83, 84, 85, 1 << 32, (1 << 32) + 1, u64::MAX] {
@@ -165,36 +167,36 @@ fn states_at_and_past_each_limit() {
             for left in [0, room - 1, room, room.saturating_add(1), u64::MAX] {
                 let mut state = State { month, ..State::default() };
                 state.ledgers[ledger] = left;
-                held.month(&site, &book, &state);
+                comparison.month(&site, &book, &state);
             }
         }
     }
     for _ in 0..1_500 {
-        held.month(&site, &book, &random::no_state(&mut dice));
-        held.month(&site, &book, &random::state(&mut dice, true));
-        held.month(&site, &book, &random::wild_numbers(&mut dice));
+        comparison.month(&site, &book, &random::no_state(&mut generator));
+        comparison.month(&site, &book, &random::state(&mut generator, true));
+        comparison.month(&site, &book, &random::any_numbers(&mut generator));
     }
 }
 
 /// Books that let nothing out: the burden meets its limit at a chosen step exactly, or passes it by one.
 #[test]
 fn burdens_at_and_past_the_limit_at_each_step() {
-    let mut held = Held::new("burdens at the limit");
-    let mut dice = Dice::new(110);
+    let mut comparison = Comparison::new("burdens at the limit");
+    let mut generator = Generator::new(110);
     for turn in 0..600 {
-        let temper = turn_temper(turn);
-        let book = cards::book_file(&random::closed_rows(&mut dice, temper));
-        let mut fields = random::site_fields(&mut dice, Temper::Mild);
-        let month = dice.between(0, MONTHS as u64 - 1);
-        fields[place::DIET + age_of(month as usize + 1)] = dice.sized(100_000_000) as u32;
+        let range = Range::of_turn(turn);
+        let book = cards::book_file(&random::closed_rows(&mut generator, range));
+        let mut fields = random::site_fields(&mut generator, Range::Near);
+        let month = generator.between(0, MONTHS as u64 - 1);
+        fields[place::DIET + age_of(month as usize + 1)] = generator.sized(100_000_000) as u32;
         let site = cards::site_file(&fields);
-        let day = month_uptake(&site, &book, month).expect("mild intakes are within their limit") / 30;
-        let steps = [0, 1, 5, 6, 178, 179, dice.between(0, 179)][turn % 7];
+        let day = month_uptake(&site, &book, month).expect("near intakes are within their limit") / 30;
+        let steps = [0, 1, 5, 6, 178, 179, generator.between(0, 179)][turn % 7];
         let absorbed: u64 = (0..=steps).map(|step| step_uptake(day, u128::from(step % 6))).sum();
         for past in [0, 1] {
             let burden = (BURDEN_LIMIT as u64 + past).saturating_sub(absorbed);
-            let state = random::burdened(&mut dice, month, burden);
-            let answer = held.month(&site, &book, &state);
+            let state = random::burdened(&mut generator, month, burden);
+            let answer = comparison.month(&site, &book, &state);
             if past == 1 && burden > 0 {
                 assert_ne!(answer.number, 0);
             } else if steps == 179 {
@@ -206,24 +208,24 @@ fn burdens_at_and_past_the_limit_at_each_step() {
 
 #[test]
 fn births_at_and_past_the_limit() {
-    let mut held = Held::new("births at the limit");
-    let mut dice = Dice::new(111);
+    let mut comparison = Comparison::new("births at the limit");
+    let mut generator = Generator::new(111);
     for burden in (0..10).flat_map(|_| [BURDEN_LIMIT - 1, BURDEN_LIMIT, BURDEN_LIMIT + 1, BURDEN_LIMIT + 2]) {
-        let (mother, row) = random::newborn_of(&mut dice, burden as u64);
+        let (mother, row) = random::newborn_of(&mut generator, burden as u64);
         let mut fields = published::fields();
         fields[place::MOTHER] = mother;
         let mut rows = curves::rows();
         rows[0] = row;
         let (site, book) = (cards::site_file(&fields), cards::book_file(&rows));
-        let newborn = held.birth(&site, &book);
+        let newborn = comparison.birth(&site, &book);
         assert_eq!(newborn.number, if burden > BURDEN_LIMIT { 22 } else { 0 });
-        held.run(&site, &book, MONTHS);
+        comparison.run(&site, &book, MONTHS);
     }
 }
 
 #[test]
 fn site_fields_at_and_past_their_limits() {
-    let mut held = Held::new("site fields at their limits");
+    let mut comparison = Comparison::new("site fields at their limits");
     let book = curves::book();
     for index in 0..SITE_FIELDS {
         let (least, most) = (site::least(index), site::most(index));
@@ -232,33 +234,15 @@ fn site_fields_at_and_past_their_limits() {
             fields[place::FIRST_DRAW_SHARE..=place::FOUNTAIN_SHARE].fill(0);
             fields[index] = value;
             let site = cards::site_file(&fields);
-            held.read_site(&site);
-            held.birth(&site, &book);
+            comparison.read_site(&site);
+            comparison.birth(&site, &book);
         }
     }
 }
 
 /// Every kind of fault, each block, every site field and every row fault among them.
 fn every_fault() -> Vec<Fault> {
-    let mut faults = vec![
-        Fault::SiteCheck,
-        Fault::SiteEdition,
-        Fault::SiteNumber,
-        Fault::SiteReserved,
-        Fault::Shares,
-        Fault::SaturationLow,
-    ];
-    faults.extend([0, 1, 4, 508, 511, 513, 1024].map(Fault::SiteLength));
-    faults.extend([0, 1, 512, 8_192, 8_703, 8_705, 9_216].map(Fault::BookLength));
-    faults.extend((0..SITE_FIELDS).map(Fault::SiteField));
-    for block in 0..17 {
-        faults.extend([
-            Fault::BlockCheck(block),
-            Fault::BlockEdition(block),
-            Fault::BlockNumber(block),
-            Fault::BlockReserved(block),
-        ]);
-    }
+    let mut faults = file_faults();
     for (index, fault) in row_faults().into_iter().enumerate() {
         faults.extend([0, 4, 5, 24, 84, (7 * index) % 85].map(|month| Fault::Row(month, fault)));
     }
@@ -270,123 +254,116 @@ fn every_fault() -> Vec<Fault> {
 
 #[test]
 fn every_single_fault() {
-    let mut held = Held::new("single faults");
-    let mut dice = Dice::new(104);
+    let mut comparison = Comparison::new("single faults");
+    let mut generator = Generator::new(104);
     for fault in every_fault() {
-        let (site, book) = damaged(&mut dice, &published::fields(), &curves::rows(), &[fault]);
-        held.all(&site, &book, &random::any_state(&mut dice));
+        let (site, book) = damaged(&mut generator, &published::fields(), &curves::rows(), &[fault]);
+        comparison.all(&site, &book, &random::any_state(&mut generator));
     }
 }
 
 #[test]
 fn several_faults_at_once() {
-    let mut held = Held::new("several faults");
-    let mut dice = Dice::new(105);
+    let mut comparison = Comparison::new("several faults");
+    let mut generator = Generator::new(105);
     for turn in 0..2_000 {
-        let temper = turn_temper(turn);
-        let (fields, rows) = (random::site_fields(&mut dice, temper), random::rows(&mut dice, temper));
-        let faults: Vec<Fault> = (0..dice.between(1, 4)).map(|_| random::fault(&mut dice)).collect();
-        let (site, book) = damaged(&mut dice, &fields, &rows, &faults);
-        let length = list_length(&mut dice);
-        held.read_site(&site);
-        held.birth(&site, &book);
-        held.month(&site, &book, &random::any_state(&mut dice));
-        held.run(&site, &book, length);
+        let range = Range::of_turn(turn);
+        let faults = generator.between(1, 4) as usize;
+        let (site, book) = random::card(&mut generator, range, faults);
+        let length = list_length(&mut generator);
+        comparison.read_site(&site);
+        comparison.birth(&site, &book);
+        comparison.month(&site, &book, &random::any_state(&mut generator));
+        comparison.run(&site, &book, length);
     }
 }
 
 #[test]
-fn bytes_without_any_form() {
-    let mut held = Held::new("formless bytes");
-    let mut dice = Dice::new(106);
+fn random_bytes() {
+    let mut comparison = Comparison::new("random bytes");
+    let mut generator = Generator::new(106);
     for _ in 0..300 {
-        let lengths = [[512, 8_704], [8_704, 512], [0, 0], [512, 0]][dice.index(4)];
-        let [site, book] = lengths.map(|length| (0..length).map(|_| dice.any() as u8).collect::<Vec<u8>>());
-        held.all(&site, &book, &random::any_state(&mut dice));
+        let lengths = [[512, 8_704], [8_704, 512], [0, 0], [512, 0]][generator.index(4)];
+        let [site, book] =
+            lengths.map(|length| (0..length).map(|_| generator.any() as u8).collect::<Vec<u8>>());
+        comparison.all(&site, &book, &random::any_state(&mut generator));
         let mut sealed = site.clone();
         sealed.resize(BLOCK_BYTES, 0);
         cards::seal(&mut sealed);
-        held.all(&sealed, &curves::book(), &random::any_state(&mut dice));
+        comparison.all(&sealed, &curves::book(), &random::any_state(&mut generator));
     }
 }
 
 #[test]
 fn lists_of_wrong_lengths() {
-    let mut held = Held::new("lists of wrong lengths");
-    let mut dice = Dice::new(107);
+    let mut comparison = Comparison::new("lists of wrong lengths");
+    let mut generator = Generator::new(107);
     let (site, book) = (published::site(), curves::book());
     for length in (0..200).chain([8_400, 84_000]) {
-        held.run(&site, &book, length);
-        let fault = random::fault(&mut dice);
-        let (site, book) = damaged(&mut dice, &published::fields(), &curves::rows(), &[fault]);
-        held.run(&site, &book, length);
+        comparison.run(&site, &book, length);
+        let fault = random::fault(&mut generator);
+        let (site, book) = damaged(&mut generator, &published::fields(), &curves::rows(), &[fault]);
+        comparison.run(&site, &book, length);
     }
 }
 
 #[test]
 fn the_writer_and_read_back() {
-    let mut held = Held::new("writer and read-back");
-    let mut dice = Dice::new(108);
+    let mut comparison = Comparison::new("writer and read-back");
+    let mut generator = Generator::new(108);
     for turn in 0..2_000 {
-        let body_length = if dice.once_in(4) { dice.index(600) } else { BODY_BYTES };
-        let target_length = if dice.once_in(4) { dice.index(600) } else { BLOCK_BYTES };
-        let body: Vec<u8> = (0..body_length).map(|_| dice.any() as u8).collect();
-        held.write_block(&body, target_length);
-        let fields = random::site_fields(&mut dice, turn_temper(turn));
+        let body_length = if generator.once_in(4) { generator.index(600) } else { BODY_BYTES };
+        let target_length = if generator.once_in(4) { generator.index(600) } else { BLOCK_BYTES };
+        let body: Vec<u8> = (0..body_length).map(|_| generator.any() as u8).collect();
+        comparison.write_block(&body, target_length);
+        let fields = random::site_fields(&mut generator, Range::of_turn(turn));
         let site = cards::site_file(&fields);
         let mut written = vec![0; BLOCK_BYTES];
         assert_eq!(ffi::write_block(&site[..BODY_BYTES], &mut written), 0);
         assert_eq!(ffi::read_site(&written), (0, fields));
-        held.read_site(&written);
+        comparison.read_site(&written);
     }
-    held.write_block(&[0xFF; BODY_BYTES], BLOCK_BYTES);
-    held.write_block(&[0; BODY_BYTES], BLOCK_BYTES);
+    comparison.write_block(&[0xFF; BODY_BYTES], BLOCK_BYTES);
+    comparison.write_block(&[0; BODY_BYTES], BLOCK_BYTES);
 }
 
-/// One call of a list: its own files, sometimes damaged, mostly tame.
-fn call_files(dice: &mut Dice) -> (Vec<u8>, Vec<u8>) {
-    let temper = if dice.once_in(4) { random::temper(dice) } else { Temper::Mild };
-    let (fields, rows) = (random::site_fields(dice, temper), random::rows(dice, temper));
-    let faults: Vec<Fault> = if dice.once_in(5) { vec![random::fault(dice)] } else { vec![] };
-    damaged(dice, &fields, &rows, &faults)
+/// One call of a list: its own files, sometimes damaged, mostly near the defaults.
+fn call_files(generator: &mut Generator) -> (Vec<u8>, Vec<u8>) {
+    let range = if generator.once_in(4) { random::range(generator) } else { Range::Near };
+    let faults = usize::from(generator.once_in(5));
+    random::card(generator, range, faults)
 }
 
 /// Lists of calls with refused ones among them: the engine's own month ends balance
 /// between every two, and each accepted month is the one whose steps keep the margin.
 #[test]
 fn demand_3_over_lists_of_calls() {
-    let mut held = Held::new("lists of calls");
-    let mut dice = Dice::new(109);
-    let (mut pairs, mut steps) = (0, 0);
+    let mut comparison = Comparison::new("lists of calls");
+    let mut generator = Generator::new(109);
+    let (mut pairs, mut months) = (0, 0);
     for _ in 0..40 {
         let mut ends = Ends::default();
-        let (site, book) = call_files(&mut dice);
-        held.birth(&site, &book);
+        let (site, book) = call_files(&mut generator);
+        comparison.birth(&site, &book);
         let newborn = ffi::birth(&site, &book);
         let mut state = newborn.state;
         if newborn.number == 0 {
             ends.note(state, 0);
         }
         for _ in 0..60 {
-            let (site, book) = call_files(&mut dice);
-            let answer = held.month(&site, &book, &state);
+            let (site, book) = call_files(&mut generator);
+            let answer = comparison.month(&site, &book, &state);
             if answer.number != 0 {
                 continue;
             }
-            let uptake = month_uptake(&site, &book, state.month).expect("an accepted month has its uptake");
-            let (end, flow) = audit_month(&site, &book, &state).expect("the model accepts it too");
-            assert_eq!((end, flow.steps, flow.outside), (answer.state, 180, 0));
-            assert_eq!(flow.uptake, uptake);
-            for ledger in 0..3 {
-                let before = u128::from(state.ledgers[ledger]);
-                assert_eq!(before + flow.exits[ledger], u128::from(answer.state.ledgers[ledger]));
-            }
-            assert_eq!(answer.state.month, state.month + 1);
-            ends.note(answer.state, uptake);
-            steps += flow.steps;
-            state = answer.state;
+            ends.note(answer.state, check_month(&site, &book, &state, &answer.state));
+            (months, state) = (months + 1, answer.state);
         }
         pairs += ends.balance().expect("every two ends balance");
     }
-    println!("lists of calls: {pairs} pairs of month ends balanced, {steps} steps within the margin");
+    assert!(months > 1_500 && pairs > 30_000);
+    println!(
+        "lists of calls: {pairs} pairs of month ends balanced, {} steps within the margin",
+        180 * months
+    );
 }

@@ -1,48 +1,51 @@
 //! The program `leadline`, run in many folders and held to the model byte for byte.
 
+#[path = "support/folder.rs"]
+mod folder;
+#[path = "support/repository.rs"]
+mod repository;
+#[path = "support/samples.rs"]
+mod samples;
+
+use folder::Folder;
 use jurengate_model::book::{column, RowFields, BOOK_ROWS, ROW_FIELDS};
 use jurengate_model::cards::{book_file, curves, published, site_file};
 use jurengate_model::printout::printout;
-use jurengate_model::random::{book, damaged, fault, row_faults, site, temper, Dice, Fault, Intake};
+use jurengate_model::random::{book, damaged, fault, range, row_faults, site, Fault, Generator, Intake};
 use jurengate_model::site::{place, SATURATION_LEAST, SITE_FIELDS};
-use std::env;
-use std::fs;
-use std::path::{Path, PathBuf};
+use std::fs::{self, OpenOptions};
+use std::path::Path;
 use std::process::Command;
 
 /// The program, as the gate leaves it.
-fn program() -> PathBuf {
-    let built = Path::new(env!("CARGO_MANIFEST_DIR")).join("../target/bin/leadline");
-    built.canonicalize().expect("rt check leadline has built the program")
-}
-
-/// A folder with the files that are there.
-fn folder(name: &str, site: Option<&[u8]>, book: Option<&[u8]>) -> PathBuf {
-    let folder = env::temp_dir().join(format!("leadline-{}-{name}", std::process::id()));
-    fs::create_dir_all(&folder).expect("a temporary folder");
-    for (file, bytes) in [("site.lkb", site), ("book.lkb", book)] {
-        if let Some(bytes) = bytes {
-            fs::write(folder.join(file), bytes).expect("a file is written");
-        }
-    }
-    folder
+fn leadline() -> Command {
+    let built = repository::at("target/bin/leadline");
+    Command::new(built.canonicalize().expect("rt check leadline has built the program"))
 }
 
 /// What the program prints in a folder.
 fn printed(folder: &Path) -> Vec<u8> {
-    let output = Command::new(program()).current_dir(folder).output().expect("the program runs");
+    let output = leadline().current_dir(folder).output().expect("the program runs");
     assert!(output.status.success());
     assert!(output.stderr.is_empty(), "{}", String::from_utf8_lossy(&output.stderr));
     output.stdout
 }
 
+/// A folder with the files that are there.
+fn card(name: &str, site: Option<&[u8]>, book: Option<&[u8]>) -> Folder {
+    let folder = Folder::new(name);
+    for (file, bytes) in [("site.lkb", site), ("book.lkb", book)] {
+        bytes.map(|bytes| folder.write(file, bytes));
+    }
+    folder
+}
+
 /// Runs the program on two files, of which one may be missing, and compares.
 fn compare(name: &str, site: Option<&[u8]>, book: Option<&[u8]>) -> Vec<u8> {
-    let folder = folder(name, site, book);
-    let bytes = printed(&folder);
+    let folder = card(name, site, book);
+    let bytes = printed(folder.path());
     let expected = printout(site.unwrap_or(&[]), book.unwrap_or(&[]));
     assert_eq!(String::from_utf8_lossy(&bytes), String::from_utf8_lossy(&expected), "{name}");
-    fs::remove_dir_all(&folder).expect("the folder is removed");
     bytes
 }
 
@@ -69,11 +72,23 @@ fn missing_short_and_long_files() {
 
 #[test]
 fn files_that_cannot_be_read_count_as_empty() {
-    let folder = folder("folders", None, None);
-    fs::create_dir_all(folder.join("site.lkb")).expect("a folder by the site file's name");
-    fs::create_dir_all(folder.join("book.lkb")).expect("a folder by the book's name");
-    assert_eq!(printed(&folder), b"refused 1 after 0\n");
-    fs::remove_dir_all(&folder).expect("the folder is removed");
+    let folder = Folder::new("folders");
+    fs::create_dir(folder.path().join("site.lkb")).expect("a folder by the site file's name");
+    fs::create_dir(folder.path().join("book.lkb")).expect("a folder by the book's name");
+    assert_eq!(printed(folder.path()), b"refused 1 after 0\n");
+}
+
+/// Where standard output takes nothing, the program says so once and ends by itself.
+#[test]
+fn a_full_device_is_told_on_standard_error() {
+    let (site, book) = (published::site(), curves::book());
+    for (name, book) in [("full-84", Some(book.as_slice())), ("full-1", None)] {
+        let folder = card(name, Some(&site), book);
+        let full = OpenOptions::new().write(true).open("/dev/full").expect("a device that is full");
+        let output = leadline().current_dir(folder.path()).stdout(full).output().expect("the program runs");
+        assert!(output.status.code().is_some(), "ended by a signal: {}", output.status);
+        assert_eq!(String::from_utf8_lossy(&output.stderr), "leadline: No space left on device\n");
+    }
 }
 
 #[test]
@@ -83,7 +98,7 @@ fn the_published_default() {
 }
 
 /// A child that keeps its birth's red cells and takes up nothing: its blood figure is 85 % of the mother's in every month.
-fn still_child(mother: u32) -> (Vec<u8>, Vec<u8>) {
+fn constant_child(mother: u32) -> (Vec<u8>, Vec<u8>) {
     let mut fields = [0; SITE_FIELDS];
     fields[place::SATURATION] = SATURATION_LEAST;
     fields[place::MOTHER] = mother;
@@ -98,14 +113,14 @@ fn still_child(mother: u32) -> (Vec<u8>, Vec<u8>) {
 #[test]
 fn the_mark_at_30000_and_30001() {
     for (mother, line) in [(35_295, "84 30.0 -"), (35_296, "84 30.0 W")] {
-        let (site, book) = still_child(mother);
+        let (site, book) = constant_child(mother);
         assert_eq!(last_line(&compare("mark", Some(&site), Some(&book))), line);
     }
 }
 
 #[test]
 fn every_refusal_number() {
-    let mut dice = Dice::new(20);
+    let mut generator = Generator::new(20);
     let mut faults = vec![
         Fault::SiteCheck,
         Fault::SiteEdition,
@@ -122,7 +137,7 @@ fn every_refusal_number() {
     ];
     faults.extend(row_faults().into_iter().map(|each| Fault::Row(60, each)));
     for each in faults {
-        let (site, book) = damaged(&mut dice, &published::fields(), &curves::rows(), &[each]);
+        let (site, book) = damaged(&mut generator, &published::fields(), &curves::rows(), &[each]);
         let line = last_line(&compare("faults", Some(&site), Some(&book)));
         assert!(line.starts_with(&format!("refused {} after ", each.number())), "{line}");
     }
@@ -130,32 +145,27 @@ fn every_refusal_number() {
 
 #[test]
 fn random_cards() {
-    let mut dice = Dice::new(21);
+    let mut generator = Generator::new(21);
     for _ in 0..150 {
-        let kind = temper(&mut dice);
-        let (site, book) = (site(&mut dice, kind), book(&mut dice, kind));
+        let kind = range(&mut generator);
+        let (site, book) = (site(&mut generator, kind), book(&mut generator, kind));
         compare("random", Some(&site), Some(&book));
     }
 }
 
 #[test]
 fn random_damage() {
-    let mut dice = Dice::new(22);
+    let mut generator = Generator::new(22);
     for _ in 0..150 {
-        let each = fault(&mut dice);
-        let (site, book) = damaged(&mut dice, &published::fields(), &curves::rows(), &[each]);
+        let each = fault(&mut generator);
+        let (site, book) = damaged(&mut generator, &published::fields(), &curves::rows(), &[each]);
         compare("damage", Some(&site), Some(&book));
     }
 }
 
 #[test]
 fn the_samples_print_what_is_stored() {
-    let samples = Path::new(env!("CARGO_MANIFEST_DIR")).join("../samples");
-    for name in ["default", "heavy", "refused-intake", "refused-burden"] {
-        let folder = samples.join(name);
-        let stored = fs::read(folder.join("printout.txt")).expect("a stored printout");
-        assert_eq!(printed(&folder), stored, "{name}");
-        let read = |file| fs::read(folder.join(file)).expect("a stored card");
-        assert_eq!(printout(&read("site.lkb"), &read("book.lkb")), stored, "{name}");
+    for sample in samples::folders() {
+        assert!(printed(&sample) == samples::stored(&sample, "printout.txt"), "{}", sample.display());
     }
 }

@@ -2,7 +2,7 @@
 
 use jurengate_model::cards::{curves, published};
 use jurengate_model::printout::{decimals, month_line, printout, refusal_line};
-use jurengate_model::random::{damaged, Dice, Fault, Intake};
+use jurengate_model::random::{damaged, Fault, Generator, Intake};
 
 #[test]
 fn half_up_to_one_decimal() {
@@ -60,11 +60,11 @@ fn the_default_card_prints_84_lines() {
 
 #[test]
 fn a_run_refused_midway_prints_its_months_and_the_refusal() {
-    let mut dice = Dice::new(1);
+    let mut generator = Generator::new(1);
     let faults = [Fault::Intake(Intake::ConstantWater, 3)];
     let mut fields = published::fields();
     fields[jurengate_model::site::place::ABSORBED + 1] = 0;
-    let (site, book) = damaged(&mut dice, &fields, &curves::rows(), &faults);
+    let (site, book) = damaged(&mut generator, &fields, &curves::rows(), &faults);
     let text = String::from_utf8(printout(&site, &book)).unwrap();
     let lines: Vec<&str> = text.lines().collect();
     assert_eq!(lines.len(), 37);

@@ -3,18 +3,17 @@
 use jurengate_model::cards::{self, curves, published};
 use jurengate_model::engine::{birth, month, read_files, run};
 use jurengate_model::kinetics::step_uptake;
-use jurengate_model::printout::printout;
-use jurengate_model::random::{self, Dice, Temper};
-use jurengate_model::site::{place, AGES};
+use jurengate_model::random::{self, Generator, Range};
+use jurengate_model::site::{place, AGES, SITE_FIELDS};
 use jurengate_model::state::{State, MONTHS};
 use jurengate_model::uptake::{day_uptake, intakes};
 
 #[test]
 fn the_run_is_birth_and_months() {
-    let mut dice = Dice::new(51);
+    let mut generator = Generator::new(51);
     for _ in 0..120 {
-        let temper = random::temper(&mut dice);
-        let (site, book) = (random::site(&mut dice, temper), random::book(&mut dice, temper));
+        let range = random::range(&mut generator);
+        let (site, book) = random::card(&mut generator, range, 0);
         let mut blood = [u32::MAX; MONTHS];
         let whole = run(&site, &book, &mut blood);
         let newborn = birth(&site, &book);
@@ -34,11 +33,11 @@ fn the_run_is_birth_and_months() {
 
 #[test]
 fn month_ends_are_states() {
-    let mut dice = Dice::new(52);
+    let mut generator = Generator::new(52);
     for _ in 0..3_000 {
-        let temper = random::temper(&mut dice);
-        let (site, book) = (random::site(&mut dice, temper), random::book(&mut dice, temper));
-        let answer = month(&site, &book, &random::state(&mut dice, false));
+        let range = random::range(&mut generator);
+        let (site, book) = random::card(&mut generator, range, 0);
+        let answer = month(&site, &book, &random::state(&mut generator, false));
         assert!(answer.number == 0 || answer.number == 9 || answer.number == 22);
         assert!(answer.state.is_state());
     }
@@ -46,22 +45,22 @@ fn month_ends_are_states() {
 
 #[test]
 fn random_states_are_what_they_are_called() {
-    let mut dice = Dice::new(53);
+    let mut generator = Generator::new(53);
     for _ in 0..20_000 {
-        assert!(random::state(&mut dice, false).is_state());
-        assert_eq!(random::state(&mut dice, true).month, 84);
-        assert!(!random::no_state(&mut dice).is_state());
+        assert!(random::state(&mut generator, false).is_state());
+        assert_eq!(random::state(&mut generator, true).month, 84);
+        assert!(!random::no_state(&mut generator).is_state());
     }
 }
 
 #[test]
-fn tempers_reach_what_they_are_for() {
-    let mut dice = Dice::new(54);
+fn ranges_reach_what_they_are_for() {
+    let mut generator = Generator::new(54);
     let mut numbers = [0; 23];
     let mut whole = 0;
     for turn in 0..300 {
-        let temper = [Temper::Mild, Temper::Wide, Temper::Edge][turn % 3];
-        let (site, book) = (random::site(&mut dice, temper), random::book(&mut dice, temper));
+        let range = Range::of_turn(turn);
+        let (site, book) = random::card(&mut generator, range, 0);
         let answer = run(&site, &book, &mut [0; MONTHS]);
         numbers[answer.number as usize] += 1;
         whole += usize::from(answer.months == 84);
@@ -72,19 +71,19 @@ fn tempers_reach_what_they_are_for() {
 
 #[test]
 fn the_six_shares_add_up() {
-    let mut dice = Dice::new(55);
+    let mut generator = Generator::new(55);
     for _ in 0..20_000 {
-        let day = u128::from(dice.edged(6_000_000_000));
+        let day = u128::from(generator.at_limits(6_000_000_000));
         assert_eq!((0..6).map(|k| u128::from(step_uptake(day, k))).sum::<u128>(), day);
     }
 }
 
 #[test]
 fn a_day_takes_up_no_more_than_it_takes_in() {
-    let mut dice = Dice::new(56);
+    let mut generator = Generator::new(56);
     for _ in 0..500 {
-        let temper = random::temper(&mut dice);
-        let files = read_files(&random::site(&mut dice, temper), &random::book(&mut dice, temper));
+        let range = random::range(&mut generator);
+        let files = read_files(&random::site(&mut generator, range), &random::book(&mut generator, range));
         let (site, book) = files.unwrap();
         for month in [1, 12, 13, 24, 25, 84] {
             let Ok(uptake) = day_uptake(&site, &book, month) else { continue };
@@ -95,26 +94,43 @@ fn a_day_takes_up_no_more_than_it_takes_in() {
     }
 }
 
+/// The 84 figures and the last state of an accepted run with the realistic book.
+fn whole_run(fields: &[u32; SITE_FIELDS]) -> ([u32; MONTHS], State) {
+    let mut blood = [0; MONTHS];
+    let answer = run(&cards::site_file(fields), &curves::book(), &mut blood);
+    assert_eq!((answer.number, answer.months as usize), (0, MONTHS));
+    (blood, answer.state)
+}
+
 #[test]
 fn unused_modes_change_nothing() {
-    let book = curves::book();
     let mut fields = published::fields();
-    let before = printout(&cards::site_file(&fields), &book);
+    let before = whole_run(&fields);
     fields[place::DUST..place::DUST + AGES].fill(50_000_000);
     fields[place::FLUSHED..=place::FOUNTAIN].fill(10_000_000);
     fields[place::FIRST_DRAW_SHARE] = 0;
-    assert_eq!(printout(&cards::site_file(&fields), &book), before);
+    assert_eq!(whole_run(&fields), before);
+    (fields[place::DUST_MODE], fields[place::WATER_MODE]) = (0, 1);
+    fields[place::DUST..place::DUST + AGES].fill(150_000);
+    fields[place::FLUSHED..=place::FOUNTAIN].fill(900);
+    assert_eq!(whole_run(&fields), before, "the same dust and water by the other modes");
+    fields[place::CONTRIBUTION] = 0;
+    fields[place::AIR_TO_DUST] = 0;
+    fields[place::CONSTANT_WATER] = 10_000_000;
+    assert_eq!(whole_run(&fields), before);
 }
 
 #[test]
 fn another_yard_another_curve() {
-    let book = curves::book();
-    let mut last = printout(&published::site(), &book);
+    let (mut last, _) = whole_run(&published::fields());
     for soil in [250_000, 400_000, 1_000_000] {
         let mut fields = published::fields();
         fields[place::SOIL..place::SOIL + AGES].fill(soil);
-        let next = printout(&cards::site_file(&fields), &book);
-        assert_ne!(next, last);
+        let (next, _) = whole_run(&fields);
+        assert!(
+            next.iter().zip(last).all(|(more, less)| *more > less),
+            "more soil lead, more in every month"
+        );
         last = next;
     }
 }

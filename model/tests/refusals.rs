@@ -1,10 +1,12 @@
 //! Every refusal number, the order among them, and what a refused call leaves.
 
 use jurengate_model::block::{write_block, BLOCK_BYTES, BODY_BYTES};
-use jurengate_model::book::{column, read_book, row_fields, RowFields, BLOCK_ROWS, BOOK_BLOCKS, BOOK_ROWS};
+use jurengate_model::book::{column, read_book, row_fields, RowFields, BLOCK_ROWS, BOOK_ROWS};
 use jurengate_model::cards::{self, curves, published};
-use jurengate_model::engine::{birth, month, run, RunAnswer};
-use jurengate_model::random::{damaged, fault, row_faults, Dice, Fault, Intake, RowFault, INTAKES};
+use jurengate_model::engine::{birth, month, run, MonthAnswer, RunAnswer};
+use jurengate_model::random::{
+    damaged, fault, file_faults, row_faults, Fault, Generator, Intake, RowFault, INTAKES,
+};
 use jurengate_model::refusal::{number_of, Refusal};
 use jurengate_model::site::{least, most, place, read_site, AGES, SITE_FIELDS};
 use jurengate_model::state::{State, MONTHS};
@@ -20,59 +22,34 @@ fn run_list(site: &[u8], book: &[u8]) -> (RunAnswer, [u32; MONTHS]) {
 }
 
 /// The default card with faults in it.
-fn spoiled(dice: &mut Dice, faults: &[Fault]) -> (Vec<u8>, Vec<u8>) {
-    damaged(dice, &published::fields(), &curves::rows(), faults)
+fn damaged_default(generator: &mut Generator, faults: &[Fault]) -> (Vec<u8>, Vec<u8>) {
+    damaged(generator, &published::fields(), &curves::rows(), faults)
 }
 
 /// A site whose intakes bring nothing, so that no burden refusal comes before 9.
-fn quiet_fields() -> [u32; SITE_FIELDS] {
+fn unabsorbed_fields() -> [u32; SITE_FIELDS] {
     let mut fields = published::fields();
     fields[place::ABSORBED..place::PASSIVE].fill(0);
     fields[place::AIR_ABSORBED..place::AIR_ABSORBED + AGES].fill(0);
     fields
 }
 
-/// Every fault that stands in the files themselves.
-fn file_faults() -> Vec<Fault> {
-    let mut faults = vec![
-        Fault::SiteCheck,
-        Fault::SiteEdition,
-        Fault::SiteNumber,
-        Fault::SiteReserved,
-        Fault::Shares,
-        Fault::SaturationLow,
-    ];
-    faults.extend([0, 1, 511, 513, 1024].map(Fault::SiteLength));
-    faults.extend([0, 512, 8_703, 8_705, 9_216].map(Fault::BookLength));
-    faults.extend((0..SITE_FIELDS).map(Fault::SiteField));
-    for block in 0..BOOK_BLOCKS {
-        faults.extend([
-            Fault::BlockCheck(block),
-            Fault::BlockEdition(block),
-            Fault::BlockNumber(block),
-            Fault::BlockReserved(block),
-        ]);
-    }
-    for month in 0..BOOK_ROWS {
-        faults.extend(row_faults().into_iter().map(|fault| Fault::Row(month, fault)));
-    }
-    faults
-}
-
 #[test]
 fn every_file_fault_has_its_number_in_all_calls() {
-    let mut dice = Dice::new(1);
+    let mut generator = Generator::new(1);
     let state = birth(&published::site(), &curves::book()).state;
-    for fault in file_faults() {
-        let (site, book) = spoiled(&mut dice, &[fault]);
+    let rows =
+        (0..BOOK_ROWS).flat_map(|month| row_faults().into_iter().map(move |fault| Fault::Row(month, fault)));
+    for fault in file_faults().into_iter().chain(rows) {
+        let (site, book) = damaged_default(&mut generator, &[fault]);
         let number = fault.number();
         assert_eq!(
             (birth(&site, &book).number, birth(&site, &book).state),
             (number, State::default()),
             "{fault:?}"
         );
-        let lived = month(&site, &book, &state);
-        assert_eq!((lived.number, lived.state, lived.blood), (number, state, 0), "{fault:?}");
+        let refused = MonthAnswer { number, state, blood: 0 };
+        assert_eq!(month(&site, &book, &state), refused, "{fault:?}");
         let (answer, blood) = run_list(&site, &book);
         assert_eq!(answer, RunAnswer { number, state: State::default(), months: 0 }, "{fault:?}");
         assert_eq!(blood, [BEFORE; MONTHS]);
@@ -81,13 +58,13 @@ fn every_file_fault_has_its_number_in_all_calls() {
 
 #[test]
 fn of_two_faults_the_earlier_in_the_order_is_answered() {
-    let mut dice = Dice::new(2);
+    let mut generator = Generator::new(2);
     for _ in 0..3_000 {
-        let faults = [fault(&mut dice), fault(&mut dice)];
+        let faults = [fault(&mut generator), fault(&mut generator)];
         if faults[0] == faults[1] {
             continue;
         }
-        let (site, book) = damaged(&mut dice, &quiet_fields(), &curves::rows(), &faults);
+        let (site, book) = damaged(&mut generator, &unabsorbed_fields(), &curves::rows(), &faults);
         let first = faults.iter().min_by_key(|fault| fault.order()).unwrap();
         let (answer, _) = run_list(&site, &book);
         assert_eq!(answer.number, first.number(), "{faults:?}");
@@ -103,9 +80,9 @@ fn lengths_come_before_the_list_and_the_list_before_the_site() {
         assert_eq!(run(&site, &book, &mut blood), refused);
         assert_eq!(run(&site[1..], &book, &mut blood).number, 1);
         assert_eq!(run(&site, &book[1..], &mut blood).number, 1);
-        let mut spoiled = site.clone();
-        spoiled[508] ^= 1;
-        assert_eq!(run(&spoiled, &book, &mut blood).number, 2);
+        let mut damaged = site.clone();
+        damaged[508] ^= 1;
+        assert_eq!(run(&damaged, &book, &mut blood).number, 2);
         assert!(blood.iter().all(|&figure| figure == BEFORE));
     }
 }
@@ -184,20 +161,20 @@ fn row_limits_are_met_exactly() {
 
 #[test]
 fn later_book_blocks_are_read_after_earlier_ones() {
-    let mut dice = Dice::new(3);
+    let mut generator = Generator::new(3);
     let faults =
         [Fault::BlockCheck(9), Fault::Row(8 * BLOCK_ROWS, RowFault::Outflow), Fault::BlockEdition(9)];
-    let (site, book) = spoiled(&mut dice, &faults);
+    let (site, book) = damaged_default(&mut generator, &faults);
     assert_eq!(birth(&site, &book).number, 8);
 }
 
 #[test]
 fn an_intake_over_the_limit_ends_the_run_at_its_age() {
-    let mut dice = Dice::new(4);
+    let mut generator = Generator::new(4);
     for intake in INTAKES {
         for age in 0..AGES {
             let (site, book) =
-                damaged(&mut dice, &quiet_fields(), &curves::rows(), &[Fault::Intake(intake, age)]);
+                damaged(&mut generator, &unabsorbed_fields(), &curves::rows(), &[Fault::Intake(intake, age)]);
             let (answer, blood) = run_list(&site, &book);
             let months = 12 * age;
             assert_eq!((answer.number, answer.months as usize), (9, months), "{intake:?} at {age}");
@@ -210,7 +187,7 @@ fn an_intake_over_the_limit_ends_the_run_at_its_age() {
 
 #[test]
 fn an_intake_at_the_limit_is_accepted() {
-    let mut fields = quiet_fields();
+    let mut fields = unabsorbed_fields();
     fields[place::WEIGHT_SOIL] = 100;
     fields[place::DUST_MODE] = 0;
     for age in 0..AGES {
@@ -251,9 +228,9 @@ fn no_state_is_refused_with_20_at_each_limit() {
 
 #[test]
 fn twenty_comes_before_21_9_and_22_and_21_before_9() {
-    let mut dice = Dice::new(5);
+    let mut generator = Generator::new(5);
     let (site, book) =
-        damaged(&mut dice, &quiet_fields(), &curves::rows(), &[Fault::Intake(Intake::Soil, 6)]);
+        damaged(&mut generator, &unabsorbed_fields(), &curves::rows(), &[Fault::Intake(Intake::Soil, 6)]);
     let at = |month: u64, burden: u64| State {
         month,
         compartments: [burden, 0, 0, 0, 0, 0, 0],
@@ -272,7 +249,7 @@ fn twenty_comes_before_21_9_and_22_and_21_before_9() {
 
 /// A site that brings a given day's uptake at every age, all of it passive diet.
 fn diet_site(day: u32) -> Vec<u8> {
-    let mut fields = quiet_fields();
+    let mut fields = unabsorbed_fields();
     fields[place::DIET..place::DIET + AGES].fill(day);
     fields[place::ABSORBED] = 100;
     fields[place::PASSIVE] = 100;
@@ -288,8 +265,8 @@ fn a_burden_over_the_limit_at_a_step_is_22_and_leaves_the_last_month() {
     assert!(answer.months >= 1 && answer.months < 84);
     assert_eq!(blood.iter().filter(|&&figure| figure != BEFORE).count(), answer.months as usize);
     let book = curves::book();
-    let lived = month(&diet_site(1_000_000_000), &book, &answer.state);
-    assert_eq!((lived.number, lived.state, lived.blood), (22, answer.state, 0));
+    let refused = MonthAnswer { number: 22, state: answer.state, blood: 0 };
+    assert_eq!(month(&diet_site(1_000_000_000), &book, &answer.state), refused);
 }
 
 #[test]
@@ -319,9 +296,9 @@ fn a_birth_over_the_burden_is_22_before_any_month() {
 
 #[test]
 fn the_birth_limit_is_met_exactly() {
-    let mut dice = Dice::new(7);
+    let mut generator = Generator::new(7);
     for (burden, number) in [(50_000_000_000, 0), (50_000_000_001, 22)] {
-        let (mother, row) = jurengate_model::random::newborn_of(&mut dice, burden);
+        let (mother, row) = jurengate_model::random::newborn_of(&mut generator, burden);
         let mut fields = published::fields();
         fields[place::MOTHER] = mother;
         let answer = birth(&cards::site_file(&fields), &book_with(0, |old| *old = row));
@@ -345,12 +322,12 @@ fn the_writer_checks_lengths_alone_and_keeps_a_refused_target() {
 
 #[test]
 fn what_the_writer_writes_is_read_back() {
-    let mut dice = Dice::new(6);
+    let mut generator = Generator::new(6);
     for _ in 0..300 {
-        let temper = jurengate_model::random::temper(&mut dice);
-        let fields = jurengate_model::random::site_fields(&mut dice, temper);
+        let range = jurengate_model::random::range(&mut generator);
+        let fields = jurengate_model::random::site_fields(&mut generator, range);
         assert_eq!(read_site(&cards::site_file(&fields)), Ok(fields));
-        let rows = jurengate_model::random::rows(&mut dice, temper);
+        let rows = jurengate_model::random::rows(&mut generator, range);
         let book = cards::book_file(&rows);
         assert_eq!(number_of(&read_book(&book)), 0);
         for (month, row) in rows.iter().enumerate() {

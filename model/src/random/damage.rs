@@ -1,6 +1,6 @@
 //! Damaged files: each fault just out of bounds, sealed so that it alone is met.
 
-use super::{Dice, D, OUTFLOW_MOST};
+use super::{Generator, D, OUTFLOW_MOST};
 use crate::block::{BLOCK_BYTES, BODY_BYTES, EDITION_AT, FIELDS_AT, FIELD_BYTES, NUMBER_AT};
 use crate::book::{column, RowFields, BLOCK_FIELDS, BLOCK_ROWS, BOOK_BLOCKS, BOOK_ROWS};
 use crate::cards;
@@ -16,18 +16,18 @@ pub enum RowFault {
     BloodLow,
     /// VB over 60,000.
     BloodHigh,
-    /// VP nought.
-    PlasmaNone,
+    /// VP 0.
+    PlasmaZero,
     /// VP not below VB.
-    PlasmaAll,
+    PlasmaHigh,
     /// W below 2,000.
-    BodyLight,
+    BodyLow,
     /// W over 50,000.
-    BodyHeavy,
+    BodyHigh,
     /// The kidney-to-cortical weight of this place (0 to 4) over 50,000.
     Organ(usize),
-    /// a1 nought.
-    NoRedCells,
+    /// a1 0.
+    RedCellRateZero,
     /// a1 to a6 and au together over 64 D.
     Outflow,
     /// b of this tissue (0 to 5), with its c, over D.
@@ -41,9 +41,9 @@ pub enum RowFault {
 /// Every row fault.
 pub fn row_faults() -> Vec<RowFault> {
     use RowFault::*;
-    let mut faults = vec![BloodLow, BloodHigh, PlasmaNone, PlasmaAll, BodyLight, BodyHeavy];
+    let mut faults = vec![BloodLow, BloodHigh, PlasmaZero, PlasmaHigh, BodyLow, BodyHigh];
     faults.extend((0..5).map(Organ));
-    faults.extend([NoRedCells, Outflow]);
+    faults.extend([RedCellRateZero, Outflow]);
     faults.extend((0..6).map(Back));
     faults.extend([Faeces, Skin]);
     faults
@@ -54,12 +54,12 @@ pub fn break_row(row: &mut RowFields, fault: RowFault) {
     match fault {
         RowFault::BloodLow => (row[column::VB], row[column::VP]) = (999, 1),
         RowFault::BloodHigh => row[column::VB] = 60_001,
-        RowFault::PlasmaNone => row[column::VP] = 0,
-        RowFault::PlasmaAll => row[column::VP] = row[column::VB],
-        RowFault::BodyLight => row[column::BODY] = 1_999,
-        RowFault::BodyHeavy => row[column::BODY] = 50_001,
+        RowFault::PlasmaZero => row[column::VP] = 0,
+        RowFault::PlasmaHigh => row[column::VP] = row[column::VB],
+        RowFault::BodyLow => row[column::BODY] = 1_999,
+        RowFault::BodyHigh => row[column::BODY] = 50_001,
         RowFault::Organ(place) => row[column::KIDNEY + place] = 50_001,
-        RowFault::NoRedCells => row[column::OUT] = 0,
+        RowFault::RedCellRateZero => row[column::OUT] = 0,
         RowFault::Outflow => {
             row[column::OUT..column::BACK].fill(0);
             row[column::OUT] = u32::MAX;
@@ -212,17 +212,41 @@ impl Fault {
     }
 }
 
+/// Every fault of lengths, of blocks' checks, editions, numbers and reserved bytes, and of site fields.
+pub fn file_faults() -> Vec<Fault> {
+    let mut faults = vec![
+        Fault::SiteCheck,
+        Fault::SiteEdition,
+        Fault::SiteNumber,
+        Fault::SiteReserved,
+        Fault::Shares,
+        Fault::SaturationLow,
+    ];
+    faults.extend([0, 1, 4, 508, 511, 513, 1024].map(Fault::SiteLength));
+    faults.extend([0, 1, 512, 8_192, 8_703, 8_705, 9_216].map(Fault::BookLength));
+    faults.extend((0..SITE_FIELDS).map(Fault::SiteField));
+    for block in 0..BOOK_BLOCKS {
+        faults.extend([
+            Fault::BlockCheck(block),
+            Fault::BlockEdition(block),
+            Fault::BlockNumber(block),
+            Fault::BlockReserved(block),
+        ]);
+    }
+    faults
+}
+
 /// A fault of any kind.
-pub fn fault(dice: &mut Dice) -> Fault {
-    let block = dice.index(BOOK_BLOCKS);
-    match dice.index(15) {
-        0 => Fault::SiteLength(length_off(dice, BLOCK_BYTES)),
-        1 => Fault::BookLength(length_off(dice, BOOK_BLOCKS * BLOCK_BYTES)),
+pub fn fault(generator: &mut Generator) -> Fault {
+    let block = generator.index(BOOK_BLOCKS);
+    match generator.index(15) {
+        0 => Fault::SiteLength(length_off(generator, BLOCK_BYTES)),
+        1 => Fault::BookLength(length_off(generator, BOOK_BLOCKS * BLOCK_BYTES)),
         2 => Fault::SiteCheck,
         3 => Fault::SiteEdition,
         4 => Fault::SiteNumber,
         5 => Fault::SiteReserved,
-        6 => Fault::SiteField(dice.index(SITE_FIELDS)),
+        6 => Fault::SiteField(generator.index(SITE_FIELDS)),
         7 => Fault::Shares,
         8 => Fault::SaturationLow,
         9 => Fault::BlockCheck(block),
@@ -231,21 +255,21 @@ pub fn fault(dice: &mut Dice) -> Fault {
         12 => Fault::BlockReserved(block),
         13 => {
             let faults = row_faults();
-            Fault::Row(dice.index(BOOK_ROWS), faults[dice.index(faults.len())])
+            Fault::Row(generator.index(BOOK_ROWS), faults[generator.index(faults.len())])
         }
-        _ => Fault::Intake(INTAKES[dice.index(INTAKES.len())], dice.index(AGES)),
+        _ => Fault::Intake(INTAKES[generator.index(INTAKES.len())], generator.index(AGES)),
     }
 }
 
 /// A length that is not the one due.
-fn length_off(dice: &mut Dice, due: usize) -> usize {
-    match dice.index(6) {
+fn length_off(generator: &mut Generator, due: usize) -> usize {
+    match generator.index(6) {
         0 => 0,
         1 => due - 1,
         2 => due + 1,
         3 => due + BLOCK_BYTES,
         4 => due - BLOCK_BYTES,
-        _ => dice.index(due),
+        _ => generator.index(due),
     }
 }
 
@@ -253,7 +277,7 @@ fn length_off(dice: &mut Dice, due: usize) -> usize {
 /// blocks' frames, each sealed; then broken checks, then lengths, so that a later
 /// fault of the order never hides behind an earlier one that was not asked for.
 pub fn damaged(
-    dice: &mut Dice,
+    generator: &mut Generator,
     fields: &[u32; SITE_FIELDS],
     rows: &[RowFields],
     faults: &[Fault],
@@ -269,10 +293,10 @@ pub fn damaged(
     }
     let (mut site, mut book) = (cards::site_file(&fields), cards::book_file(&rows));
     for fault in faults {
-        break_frame(dice, &mut site, &mut book, *fault);
+        break_frame(generator, &mut site, &mut book, *fault);
     }
     for fault in faults {
-        break_check(dice, &mut site, &mut book, *fault);
+        break_check(generator, &mut site, &mut book, *fault);
     }
     for fault in faults {
         break_length(&mut site, &mut book, *fault);
@@ -293,16 +317,16 @@ fn break_fields(fields: &mut [u32; SITE_FIELDS], rows: &mut [RowFields], fault: 
 }
 
 /// Faults in edition, number and reserved bytes, the block sealed after each.
-fn break_frame(dice: &mut Dice, site: &mut [u8], book: &mut [u8], fault: Fault) {
+fn break_frame(generator: &mut Generator, site: &mut [u8], book: &mut [u8], fault: Fault) {
     let site_reserved = FIELDS_AT + FIELD_BYTES * SITE_FIELDS;
     let book_reserved = FIELDS_AT + FIELD_BYTES * BLOCK_FIELDS;
     match fault {
-        Fault::SiteEdition => break_word(dice, site, EDITION_AT),
-        Fault::SiteNumber => break_word(dice, site, NUMBER_AT),
-        Fault::SiteReserved => break_reserved(dice, site, site_reserved),
-        Fault::BlockEdition(n) => break_word(dice, block_mut(book, n), EDITION_AT),
-        Fault::BlockNumber(n) => break_word(dice, block_mut(book, n), NUMBER_AT),
-        Fault::BlockReserved(n) => break_reserved(dice, block_mut(book, n), book_reserved),
+        Fault::SiteEdition => break_word(generator, site, EDITION_AT),
+        Fault::SiteNumber => break_word(generator, site, NUMBER_AT),
+        Fault::SiteReserved => break_reserved(generator, site, site_reserved),
+        Fault::BlockEdition(n) => break_word(generator, block_mut(book, n), EDITION_AT),
+        Fault::BlockNumber(n) => break_word(generator, block_mut(book, n), NUMBER_AT),
+        Fault::BlockReserved(n) => break_reserved(generator, block_mut(book, n), book_reserved),
         _ => {}
     }
 }
@@ -312,32 +336,32 @@ fn block_mut(book: &mut [u8], number: usize) -> &mut [u8] {
 }
 
 /// Changes a 16-bit word and seals the block.
-fn break_word(dice: &mut Dice, block: &mut [u8], at: usize) {
-    let bit = dice.index(16);
+fn break_word(generator: &mut Generator, block: &mut [u8], at: usize) {
+    let bit = generator.index(16);
     block[at + bit / 8] ^= 1 << (bit % 8);
     cards::seal(block);
 }
 
 /// Puts something into a reserved byte, often the first or the last, and seals the block.
-fn break_reserved(dice: &mut Dice, block: &mut [u8], from: usize) {
+fn break_reserved(generator: &mut Generator, block: &mut [u8], from: usize) {
     let last = BODY_BYTES - 1;
-    let at = match dice.index(3) {
+    let at = match generator.index(3) {
         0 => from,
         1 => last,
-        _ => dice.between(from as u64, last as u64) as usize,
+        _ => generator.between(from as u64, last as u64) as usize,
     };
-    block[at] = dice.between(1, 255) as u8;
+    block[at] = generator.between(1, 255) as u8;
     cards::seal(block);
 }
 
 /// Turns one bit of a block without sealing it: any change of one bit changes the check.
-fn break_check(dice: &mut Dice, site: &mut [u8], book: &mut [u8], fault: Fault) {
+fn break_check(generator: &mut Generator, site: &mut [u8], book: &mut [u8], fault: Fault) {
     let block: &mut [u8] = match fault {
         Fault::SiteCheck => site,
         Fault::BlockCheck(n) => block_mut(book, n),
         _ => return,
     };
-    let bit = dice.index(8 * BLOCK_BYTES);
+    let bit = generator.index(8 * BLOCK_BYTES);
     block[bit / 8] ^= 1 << (bit % 8);
 }
 
