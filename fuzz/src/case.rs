@@ -4,7 +4,7 @@ use crate::edit::edit;
 use crate::tape::Tape;
 use jurengate_model::block::BLOCK_BYTES;
 use jurengate_model::cards;
-use jurengate_model::random::{self, Dice, Temper};
+use jurengate_model::random::{self, Generator, Range};
 use jurengate_model::state::{State, MONTHS};
 
 /// Longest site file that is lent.
@@ -106,28 +106,28 @@ fn built(tape: &mut Tape) -> Case {
 
 /// A sample card, or a random one with up to three faults.
 fn card(tape: &mut Tape) -> (Vec<u8>, Vec<u8>) {
-    let temper = match tape.index(8) {
-        5 => Temper::Mild,
-        6 => Temper::Wide,
-        7 => Temper::Edge,
+    let range = match tape.index(8) {
+        5 => Range::Near,
+        6 => Range::Wide,
+        7 => Range::Limits,
         sample => {
             let (site, book) = SAMPLES[sample % SAMPLES.len()];
             return (site.to_vec(), book.to_vec());
         }
     };
-    let mut dice = Dice::new(tape.word().into());
-    random::card(&mut dice, temper, tape.index(4))
+    let mut generator = Generator::new(tape.word().into());
+    random::card(&mut generator, range, tape.index(4))
 }
 
 /// An empty child, a true state, one at a burden, or any.
 fn state(tape: &mut Tape) -> State {
     let kind = tape.index(4);
-    let mut dice = Dice::new(tape.word().into());
+    let mut generator = Generator::new(tape.word().into());
     match kind {
         0 => State::default(),
-        1 => random::state(&mut dice, false),
-        2 => random::burdened(&mut dice, tape.byte().into(), tape.number()),
-        _ => random::any_state(&mut dice),
+        1 => random::state(&mut generator, false),
+        2 => random::burdened(&mut generator, tape.byte().into(), tape.number()),
+        _ => random::any_state(&mut generator),
     }
 }
 

@@ -7,6 +7,7 @@ use lib.ListN.{length, getD, replicate}
 use lib.Dec.{ltb, eqb}
 use Rattle.engine.specs.Files.{Files}
 use Rattle.engine.specs.State.{lastMonth}
+use Rattle.engine.specs.Steps.{stepsADay}
 use Rattle.engine.specs.Run.{Ran, runOf, runList}
 use Rattle.printout.specs.declared.Prepared.{Prepared}
 use Rattle.printout.specs.Printout.{monthLine, lastLine}
@@ -16,7 +17,7 @@ abbrev pub keptOf : Ran → Prepared
 keptOf r = record { refusal = r .refusal; months = length (r .bloods); blood = runList r (replicate lastMonth 0) }
 
 unfoldable pub preparedOf : Files → Prepared
-preparedOf f = keptOf (runOf 6 f lastMonth)
+preparedOf f = keptOf (runOf stepsADay f lastMonth)
 
 -- line k, from 0: a line for each month done, then the last line, and nothing after it
 unfoldable pub lineAt : Prepared → ℕ → List ℕ

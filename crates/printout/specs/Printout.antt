@@ -7,6 +7,7 @@ use lib.ListN.{length}
 use lib.Dec.{ltb}
 use Rattle.engine.specs.Files.{Files}
 use Rattle.engine.specs.State.{lastMonth}
+use Rattle.engine.specs.Steps.{stepsADay}
 use Rattle.engine.specs.Run.{Ran, runOf}
 
 -- bytes that lines are made of
@@ -75,4 +76,4 @@ printoutOf r = monthLines 0 (r .bloods) ++ lastLine (r .refusal) (length (r .blo
 
 -- what is printed of two files, at six steps a day
 abbrev pub printout : Files → List ℕ
-printout f = printoutOf (runOf 6 f lastMonth)
+printout f = printoutOf (runOf stepsADay f lastMonth)

@@ -6,7 +6,7 @@
 
 use jurengate_model::engine::{self, RunAnswer};
 use jurengate_model::ffi;
-use jurengate_model::random::{self, Dice};
+use jurengate_model::random::{self, Generator};
 use jurengate_model::state::MONTHS;
 use std::env;
 use std::fmt::Debug;
@@ -54,16 +54,16 @@ fn held<T: PartialEq + Debug>(what: &str, answer: T, due: T) -> Result<T, String
 }
 
 /// A random card, one in four with up to three faults.
-fn card(dice: &mut Dice) -> (Vec<u8>, Vec<u8>) {
-    let temper = random::temper(dice);
-    let faults = if dice.once_in(4) { 1 + dice.index(3) } else { 0 };
-    random::card(dice, temper, faults)
+fn card(generator: &mut Generator) -> (Vec<u8>, Vec<u8>) {
+    let range = random::range(generator);
+    let faults = if generator.once_in(4) { 1 + generator.index(3) } else { 0 };
+    random::card(generator, range, faults)
 }
 
 /// A list's length, mostly the one due.
-fn list_length(dice: &mut Dice) -> usize {
-    if dice.once_in(20) {
-        dice.index(2 * MONTHS)
+fn list_length(generator: &mut Generator) -> usize {
+    if generator.once_in(20) {
+        generator.index(2 * MONTHS)
     } else {
         MONTHS
     }
@@ -106,9 +106,9 @@ fn month_by_month(
 
 /// One card both ways.
 fn soak(seed: u64, tally: &mut Tally) -> Result<(), String> {
-    let mut dice = Dice::new(seed);
-    let (site, book) = card(&mut dice);
-    let mut list = vec![BEFORE; list_length(&mut dice)];
+    let mut generator = Generator::new(seed);
+    let (site, book) = card(&mut generator);
+    let mut list = vec![BEFORE; list_length(&mut generator)];
     let whole = run(&site, &book, &mut list)?;
     tally.runs += 1;
     tally.by_number[whole.number as usize] += 1;
