@@ -184,13 +184,6 @@ pub fn card(generator: &mut Generator, range: Range, faults: usize) -> (Vec<u8>,
     damaged(generator, &fields, &rows, &faults)
 }
 
-/// The two files of a random card with this many faults in them.
-pub fn card(dice: &mut Dice, temper: Temper, faults: usize) -> (Vec<u8>, Vec<u8>) {
-    let (fields, rows) = (site_fields(dice, temper), rows(dice, temper));
-    let faults: Vec<Fault> = (0..faults).map(|_| fault(dice)).collect();
-    damaged(dice, &fields, &rows, &faults)
-}
-
 /// A mother's blood lead and a row 0 whose newborn has exactly this burden, pg.
 /// Beside whole multiples of the child's blood lead PB, the burden has only what the
 /// last digits of kidney, trabecular and cortical weight leave of PB; so mothers are
