@@ -34,6 +34,7 @@ module _ (p : Prepared) (k : ℕ) where
   unfolding lineAt
   line-last h = rw (le-ltb k (p .months) (omega arith), eq-eqb k (p .months) h)
 
+  -- past the last line
   pub line-past : p .months < k → lineAt p k ≡ []
   unfolding lineAt
   line-past h = rw (le-ltb k (p .months) (omega arith), ne-eqb k (p .months) (λ e. omega arith))
@@ -41,6 +42,7 @@ module _ (p : Prepared) (k : ℕ) where
   pub line-refused : k ≡ p .months → (p .refusal ≡ 0 → ⊥) → lineAt p k ≡ refusedLine (p .refusal) (p .months)
   line-refused h r = line-last h ∙ last-refused (p .refusal) (p .months) r
 
+  -- after the months of a run that was not refused
   pub line-none : k ≡ p .months → p .refusal ≡ 0 → lineAt p k ≡ []
   line-none h r = line-last h ∙ ap (λ (n : ℕ). lastLine n (p .months)) r
 
@@ -63,6 +65,7 @@ lines-months line (b ∷ bs) m j h =
     let rest = lines-months line bs (suc m) j (λ k l. let e : suc m + k ≡ m + suc k = omega arith in rw e (h (suc k) (omega arith))) in
     rw (more, far) (ap₂ _++_ first rest ∙ sym (append-assoc (monthLine (suc m) b) (monthLines (suc m) bs) (linesFrom line (suc m + length bs) j)))
 
+-- a month's line of what is kept of a run
 line-kept : (r : Ran) (k : ℕ) → k < length (r .bloods) → lineAt (keptOf r) k ≡ monthLine (suc k) (getD (r .bloods) k 0)
 line-kept r k h =
     line-done (keptOf r) k h

@@ -29,5 +29,6 @@ pub record IsDecimal (n : ℕ) (ds : List ℕ) : Type 0 where
   pub one : n < 10 → length ds ≡ 1
   pub first : 10 ≤ n → 48 < getD ds 0 0
 
+-- the decimal digits of a number that ten digits hold are how it is written
 abbrev pub DecimalLaw : Type 0
 DecimalLaw = (n : ℕ) → n < 10 ^ 10 → IsDecimal n (decimal n)

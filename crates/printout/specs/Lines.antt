@@ -16,6 +16,7 @@ use Rattle.printout.specs.Printout.{monthLine, lastLine}
 abbrev pub keptOf : Ran → Prepared
 keptOf r = record { refusal = r .refusal; months = length (r .bloods); blood = runList r (replicate lastMonth 0) }
 
+-- what is kept of a run of two files, at six steps a day
 unfoldable pub preparedOf : Files → Prepared
 preparedOf f = keptOf (runOf stepsADay f lastMonth)
 
