@@ -21,12 +21,11 @@ pub prepares-is : (r : Rates) {e1 e2 e3 e4 e5 e6 k1 k2 k3 k4 k5 k6 : ℕ}
     → Prepares r
     (record {
       divisors = e1 ∷ e2 ∷ e3 ∷ e4 ∷ e5 ∷ e6 ∷ [];
-      fixed = unit + r .urine + k2 + k3 + k4 + k5 + k6;
       divisor = unit + r .urine + k2 + k3 + k4 + k5 + k6 + k1;
     })
 unfolding divisor sumTo
 prepares-is r d1 d2 d3 d4 d5 d6 h1 h2 h3 h4 h5 h6 =
-    record { divisors = at-six _ d1 d2 d3 d4 d5 d6; fixed = omega arith; whole = omega arith }
+    record { divisors = at-six _ d1 d2 d3 d4 d5 d6; whole = omega arith }
 
 -- what the calls of a step give: t all the lead there is, p, the new amounts m1 to m6, and the exits x, y and z
 pub record Parts (r : Rates) (s : State) (u : ℕ) : Type 0 where

@@ -1,17 +1,8 @@
 -- Each compartment is at most the burden; and a fact about any of the six, from the fact about each.
 -- Assumes nothing.
-use mathlib.Core.List.{List}
-use Prim.Native.Nat.{ℕ, zero, suc, _≤_, _<_}
+use Prim.Native.Nat.{ℕ, zero, suc, _<_}
 use native.Mathlib.Omega.{arith}
-use native.Mathlib.Numerals.{add-one}
-use lib.ListN.{getD}
-use Rattle.numbers.proofs.Sums.{sum-has}
-use Rattle.kinetics.specs.Step.{amount, burden}
-
--- each of the seven is at most the burden
-pub compartment-le-burden : (lead : List ℕ) (i : ℕ) → i < 7 → getD lead i 0 ≤ burden lead
-compartment-le-burden lead zero l = omega arith
-compartment-le-burden lead (suc i) l = rw (← add-one i) (omega (arith, sum-has 6 (amount lead) i (omega arith)))
+use Rattle.kinetics.specs.Step.{burden}
 
 -- what holds at each of the six
 pub at-six : (P : ℕ → Type 0) → P 0 → P 1 → P 2 → P 3 → P 4 → P 5 → (i : ℕ) → i < 6 → P i

@@ -14,7 +14,6 @@ use Rattle.kinetics.specs.Step.{burden}
 use Rattle.kinetics.specs.Birth.{birthBlood, birthTotal, birthPlasma, birthRedCells, birthOrgan, birthLead, birthState}
 use Rattle.kinetics.specs.Laws.{BirthLaws}
 use Rattle.kinetics.proofs.Divisors.{part-le}
-use Rattle.kinetics.proofs.Compartments.{compartment-le-burden}
 
 pub birthBlood-le : {mother : ℕ} → mother ≤ 100_000 → birthBlood mother ≤ 85_000
 unfolding birthBlood
@@ -79,9 +78,7 @@ birth-law row mother lim h =
       lead = refl;
       ledgers = refl;
       blood = blood-parts lim mother;
-      each = λ i l. le-trans (compartment-le-burden (birthLead row mother) i l) (birth-burden-le lim h);
       bounded = birth-burden-le lim h;
-      seven = refl;
     }
 
 -- the state at birth from PB, n, and the five organs

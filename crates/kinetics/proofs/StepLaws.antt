@@ -1,7 +1,6 @@
 -- The laws of a step, on the seven compartments and on a state.
 -- Assumes nothing.
 use mathlib.Core.Path.{refl}
-use native.Mathlib.Omega.{arith}
 use Rattle.kinetics.specs.Step.{nextLead, next}
 use Rattle.kinetics.specs.Laws.{LeadLaws, StepLaws}
 use Rattle.kinetics.proofs.Balance.{never-cut-off, conservation}
@@ -13,9 +12,7 @@ lead-law r lead u lim =
     record {
       whole = never-cut-off r lead u;
       conserved = conservation r lead u;
-      bounded = omega (arith, conservation r lead u);
       margin = record { least = margin-least r lead u; most = margin-most r lead u lim };
-      seven = refl;
     }
 
 pub step-law : StepLaws
@@ -27,6 +24,5 @@ step-law r s u lim =
       urine = refl;
       faeces = refl;
       skin = refl;
-      three = refl;
       law = lead-law r (s .lead) u lim;
     }

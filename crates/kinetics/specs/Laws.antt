@@ -3,7 +3,6 @@
 use mathlib.Core.Path.{_≡_}
 use Prim.Native.Nat.{ℕ, _+_, _*_, _≤_, _<_}
 use mathlib.Core.List.{List, [], _∷_}
-use lib.ListN.{length, getD}
 use Rattle.numbers.specs.Sums.{sumTo}
 use Rattle.book.specs.declared.Rates.{Rates}
 use Rattle.book.specs.declared.Row.{Row}
@@ -29,9 +28,7 @@ SolutionLaws = (r : Rates) → SolutionLaw r
 pub record LeadLaw (r : Rates) (lead : List ℕ) (u : ℕ) : Type 0 where
   pub whole : sumTo 6 (newAmount r lead (solvedPlasma r lead u)) + exitSum (exits r lead u) ≤ plasma lead + u + sumTo 6 (amount lead)
   pub conserved : burden (nextLead r lead u) + exitSum (exits r lead u) ≡ burden lead + u
-  pub bounded : burden (nextLead r lead u) ≤ burden lead + u
   pub margin : Margin r lead u
-  pub seven : length (nextLead r lead u) ≡ 7
 
 -- for all rates within their limits, from any amounts, with any uptake
 abbrev pub LeadLaws : Type 0
@@ -44,22 +41,19 @@ pub record StepLaw (r : Rates) (s : State) (u : ℕ) : Type 0 where
   pub urine : urineLedger (next r s u) ≡ urineLedger s + exits r (s .lead) u .urine
   pub faeces : faecesLedger (next r s u) ≡ faecesLedger s + exits r (s .lead) u .faeces
   pub skin : skinLedger (next r s u) ≡ skinLedger s + exits r (s .lead) u .skin
-  pub three : length (next r s u .ledgers) ≡ 3
   pub law : LeadLaw r (s .lead) u
 
 -- the same of any state
 abbrev pub StepLaws : Type 0
 StepLaws = (r : Rates) (s : State) (u : ℕ) → RateLimits r → StepLaw r s u
 
--- birth: plasma and red cells are the blood total, and the seven compartments, each and together, stay far below 2^64
+-- birth: plasma and red cells are the blood total, and the seven compartments together stay far below 2^64
 pub record BirthLaw (row : Row) (mother : ℕ) : Type 0 where
   pub month : birthState row mother .month ≡ 0
   pub lead : birthState row mother .lead ≡ birthLead row mother
   pub ledgers : birthState row mother .ledgers ≡ 0 ∷ 0 ∷ 0 ∷ []
   pub blood : plasma (birthLead row mother) + amount (birthLead row mother) 0 ≡ birthTotal row mother
-  pub each : (i : ℕ) → i < 7 → getD (birthLead row mother) i 0 ≤ 726_325_000_000
   pub bounded : burden (birthLead row mother) ≤ 726_325_000_000
-  pub seven : length (birthLead row mother) ≡ 7
 
 abbrev pub BirthLaws : Type 0
 BirthLaws = (row : Row) (mother : ℕ) → RowLimits row → mother ≤ 100_000 → BirthLaw row mother

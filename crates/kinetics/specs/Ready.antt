@@ -7,12 +7,11 @@ use Rattle.book.specs.declared.Rates.{Rates}
 use Rattle.book.specs.Limits.{RateLimits}
 use Rattle.kinetics.specs.declared.State.{State}
 use Rattle.kinetics.specs.declared.Prepared.{Prepared}
-use Rattle.kinetics.specs.Step.{burden, burdenLimit, compartmentDivisor, retained, divisor, urineLedger, faecesLedger, skinLedger}
+use Rattle.kinetics.specs.Step.{burden, burdenLimit, compartmentDivisor, divisor, urineLedger, faecesLedger, skinLedger}
 
--- q is what the rates come to: the six Ei, d without its red-cell term, and d
+-- q is what the rates come to: the six Ei, and d
 pub record Prepares (r : Rates) (q : Prepared) : Type 0 where
   pub divisors : (i : ℕ) → i < 6 → getD (q .divisors) i 0 ≡ compartmentDivisor r i
-  pub fixed : q .fixed + retained r 0 ≡ divisor r
   pub whole : q .divisor ≡ divisor r
 
 -- a step that absorbs u is within the limits, and each ledger has room for its exit

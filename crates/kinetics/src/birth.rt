@@ -4,11 +4,14 @@ ghost use Prim.Native.Nat.{_≤_};
 ghost use Rattle.book.specs.Limits.{RowLimits};
 ghost use Rattle.kinetics.specs.Birth.{birthBlood, birthOrgan, birthState};
 ghost use Rattle.numbers.specs.Bounds.{Is};
+use super::RED_CELLS;
 use super::State;
 use book::Row;
 
 // The child's blood lead at birth, in hundredths of the mother's.
 const BIRTH_PERCENT: u64 = 85;
+
+const HUNDREDTHS: u64 = 100;
 
 // Ratios of an organ's lead, in pg a gram, to PB; in tenths.
 const LIVER_RATIO: u64 = 130;
@@ -21,12 +24,14 @@ const TRABECULAR_RATIO: u64 = 512;
 
 const CORTICAL_RATIO: u64 = 789;
 
+const TENTHS: u64 = 10;
+
 // PB, in thousandths of µg/dL (B-7a).
 fn birth_blood(mother: u64) -> u64
     requires { ⌜ mother ≤ 100_000 ⌝ }
     ensures { λ n. ⌜ Is (birthBlood mother) 85_000 n ⌝ }
 {
-    BIRTH_PERCENT * mother / 100
+    BIRTH_PERCENT * mother / HUNDREDTHS
 }
 
 // The lead of an organ of this weight in g.
@@ -34,7 +39,7 @@ fn birth_organ(ratio: u64, blood: u64, weight: u64) -> u64
     requires { ⌜ (ratio ≤ 789) × (blood ≤ 85_000) × (weight ≤ 50_000) ⌝ }
     ensures { λ n. ⌜ n ≡ birthOrgan ratio blood weight ⌝ }
 {
-    ratio * blood * weight / 10
+    ratio * blood * weight / TENTHS
 }
 
 // A child at birth, from the book's row 0 and the mother's blood lead.
@@ -43,8 +48,8 @@ pub fn birth_state(row: Row, mother: u64) -> State
     ensures { λ s. ⌜ s ≡ birthState row mother ⌝ }
 {
     let rates = row.rates;
-    let out = rates.out[0];
-    let back = rates.back[0];
+    let out = rates.out[RED_CELLS];
+    let back = rates.back[RED_CELLS];
     let blood = birth_blood(mother);
     let total = blood * row.blood_volume;
     let plasma = total * back / (out + back);

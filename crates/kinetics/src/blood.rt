@@ -1,10 +1,11 @@
 // The blood figure at a month's end (B-9g, B-10).
-ghost use mathlib.Core.Path.{_≡_};
 ghost use Prim.Native.Nat.{_≤_};
 ghost use Rattle.book.specs.Limits.{RowLimits};
 ghost use Rattle.kinetics.specs.Step.{burden, burdenLimit};
 ghost use Rattle.kinetics.specs.Blood.{bloodOf};
 ghost use Rattle.numbers.specs.Bounds.{Is};
+use super::PLASMA_AT;
+use super::RED_CELLS_AT;
 use super::State;
 use book::Row;
 
@@ -20,7 +21,7 @@ pub fn blood(row: Row, state: State) -> u32
     let plasma_volume = row.plasma_volume;
     let ecf_volume = ECF_PERCENT * volume / 100;
     let lead = state.lead;
-    let in_plasma = lead[0] * plasma_volume / (ecf_volume + plasma_volume);
-    let figure = (lead[1] + in_plasma) / volume;
+    let in_plasma = lead[PLASMA_AT] * plasma_volume / (ecf_volume + plasma_volume);
+    let figure = (lead[RED_CELLS_AT] + in_plasma) / volume;
     figure as u32
 }

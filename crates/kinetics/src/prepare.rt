@@ -6,7 +6,13 @@ ghost use Rattle.book.specs.Limits.{RateLimits};
 ghost use Rattle.kinetics.specs.Step.{compartmentDivisor, retained};
 ghost use Rattle.numbers.specs.Bounds.{Is};
 ghost use Rattle.kinetics.specs.Ready.{Prepares};
+use super::CORTICAL;
+use super::KIDNEY;
+use super::LIVER;
+use super::OTHER;
 use super::Prepared;
+use super::RED_CELLS;
+use super::TRABECULAR;
 use book::Rates;
 use book::UNIT;
 
@@ -32,22 +38,21 @@ pub fn prepare(rates: Rates) -> Prepared
     requires { ⌜ RateLimits rates ⌝ }
     ensures { λ q. ⌜ Prepares rates q ⌝ }
 {
-    let e1 = divisor_at(rates, 0, 0);
-    let e2 = divisor_at(rates, rates.faeces, 1);
-    let e3 = divisor_at(rates, 0, 2);
-    let e4 = divisor_at(rates, rates.skin, 3);
-    let e5 = divisor_at(rates, 0, 4);
-    let e6 = divisor_at(rates, 0, 5);
-    let red_cells = retained_at(rates, e1, 0);
-    let liver = retained_at(rates, e2, 1);
-    let kidney = retained_at(rates, e3, 2);
-    let other = retained_at(rates, e4, 3);
-    let trabecular = retained_at(rates, e5, 4);
-    let cortical = retained_at(rates, e6, 5);
+    let e1 = divisor_at(rates, 0, RED_CELLS);
+    let e2 = divisor_at(rates, rates.faeces, LIVER);
+    let e3 = divisor_at(rates, 0, KIDNEY);
+    let e4 = divisor_at(rates, rates.skin, OTHER);
+    let e5 = divisor_at(rates, 0, TRABECULAR);
+    let e6 = divisor_at(rates, 0, CORTICAL);
+    let red_cells = retained_at(rates, e1, RED_CELLS);
+    let liver = retained_at(rates, e2, LIVER);
+    let kidney = retained_at(rates, e3, KIDNEY);
+    let other = retained_at(rates, e4, OTHER);
+    let trabecular = retained_at(rates, e5, TRABECULAR);
+    let cortical = retained_at(rates, e6, CORTICAL);
     let fixed = UNIT + rates.urine + liver + kidney + other + trabecular + cortical;
     Prepared {
         divisors: [e1, e2, e3, e4, e5, e6],
-        fixed,
         divisor: fixed + red_cells,
     }
 }

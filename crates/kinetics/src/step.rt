@@ -5,8 +5,19 @@ ghost use Rattle.book.specs.Row.{unit};
 ghost use Rattle.kinetics.specs.Step.{burden, returned, inflow, solvedPlasma, newAmount, next, burdenLimit};
 ghost use Rattle.numbers.specs.Bounds.{Is};
 ghost use Rattle.kinetics.specs.Ready.{Ready};
+use super::COMPARTMENTS_AT;
+use super::CORTICAL;
+use super::FAECES_AT;
+use super::KIDNEY;
+use super::LIVER;
+use super::OTHER;
+use super::PLASMA_AT;
 use super::Prepared;
+use super::RED_CELLS;
+use super::SKIN_AT;
 use super::State;
+use super::TRABECULAR;
+use super::URINE_AT;
 use book::Rates;
 use book::UNIT;
 
@@ -15,7 +26,7 @@ fn returned_at(rates: Rates, prepared: Prepared, state: State, u: u64, i: usize)
     requires { ⌜ (Ready rates prepared state u) × (i < 6) ⌝ }
     ensures { λ n. ⌜ Is (returned rates (state .lead) i) burdenLimit n ⌝ }
 {
-    rates.back[i] * state.lead[i + 1] / prepared.divisors[i]
+    rates.back[i] * state.lead[i + COMPARTMENTS_AT] / prepared.divisors[i]
 }
 
 // Point 1: n.
@@ -23,14 +34,14 @@ fn inflow_of(rates: Rates, prepared: Prepared, state: State, u: u64) -> u64
     requires { ⌜ Ready rates prepared state u ⌝ }
     ensures { λ n. ⌜ Is (inflow rates (state .lead) u) burdenLimit n ⌝ }
 {
-    state.lead[0]
+    state.lead[PLASMA_AT]
         + u
-        + returned_at(rates, prepared, state, u, 0)
-        + returned_at(rates, prepared, state, u, 1)
-        + returned_at(rates, prepared, state, u, 2)
-        + returned_at(rates, prepared, state, u, 3)
-        + returned_at(rates, prepared, state, u, 4)
-        + returned_at(rates, prepared, state, u, 5)
+        + returned_at(rates, prepared, state, u, RED_CELLS)
+        + returned_at(rates, prepared, state, u, LIVER)
+        + returned_at(rates, prepared, state, u, KIDNEY)
+        + returned_at(rates, prepared, state, u, OTHER)
+        + returned_at(rates, prepared, state, u, TRABECULAR)
+        + returned_at(rates, prepared, state, u, CORTICAL)
 }
 
 // Point 1: p (B-8).
@@ -46,7 +57,7 @@ fn new_amount(rates: Rates, prepared: Prepared, state: State, u: u64, p: u64, i:
     requires { ⌜ (Ready rates prepared state u) × (p ≡ solvedPlasma rates (state .lead) u) × (i < 6) ⌝ }
     ensures { λ n. ⌜ Is (newAmount rates (state .lead) (solvedPlasma rates (state .lead) u) i) 150_000_000_000 n ⌝ }
 {
-    (state.lead[i + 1] * UNIT + rates.out[i] * p) / prepared.divisors[i]
+    (state.lead[i + COMPARTMENTS_AT] * UNIT + rates.out[i] * p) / prepared.divisors[i]
 }
 
 // Point 3: what leaves the body at a rate.
@@ -72,12 +83,12 @@ pub fn step(rates: Rates, prepared: Prepared, state: State, u: u64) -> State
     ensures { λ t. ⌜ t ≡ next rates state u ⌝ }
 {
     let p = solved_plasma(rates, prepared, state, u);
-    let red_cells = new_amount(rates, prepared, state, u, p, 0);
-    let liver = new_amount(rates, prepared, state, u, p, 1);
-    let kidney = new_amount(rates, prepared, state, u, p, 2);
-    let other = new_amount(rates, prepared, state, u, p, 3);
-    let trabecular = new_amount(rates, prepared, state, u, p, 4);
-    let cortical = new_amount(rates, prepared, state, u, p, 5);
+    let red_cells = new_amount(rates, prepared, state, u, p, RED_CELLS);
+    let liver = new_amount(rates, prepared, state, u, p, LIVER);
+    let kidney = new_amount(rates, prepared, state, u, p, KIDNEY);
+    let other = new_amount(rates, prepared, state, u, p, OTHER);
+    let trabecular = new_amount(rates, prepared, state, u, p, TRABECULAR);
+    let cortical = new_amount(rates, prepared, state, u, p, CORTICAL);
     let urine = exit_of(rates.urine, p);
     let faeces = exit_of(rates.faeces, liver);
     let skin = exit_of(rates.skin, other);
@@ -85,9 +96,9 @@ pub fn step(rates: Rates, prepared: Prepared, state: State, u: u64) -> State
     let total = burden_of(state) + u;
     let plasma = total - amounts - (urine + faeces + skin);
     let ledgers = state.ledgers;
-    let urine_ledger = ledgers[0] + urine;
-    let faeces_ledger = ledgers[1] + faeces;
-    let skin_ledger = ledgers[2] + skin;
+    let urine_ledger = ledgers[URINE_AT] + urine;
+    let faeces_ledger = ledgers[FAECES_AT] + faeces;
+    let skin_ledger = ledgers[SKIN_AT] + skin;
     State {
         month: state.month,
         lead: [
