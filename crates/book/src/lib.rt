@@ -14,7 +14,7 @@ mod places;
 pub mod table;
 
 // A book row outside its limits.
-const ROW_LIMIT: u32 = 8;
+const ROW_OUTSIDE_LIMITS: u32 = 8;
 
 // A book is blocks 0 to 16 of edition 1, with bytes used up to the end of a block's last row.
 pub const BOOK_BLOCKS: usize = 17;
@@ -74,7 +74,7 @@ fn decode_block(book: &[u8], n: usize, table: &mut [u32]) -> u32
     let last = first + BLOCK_NUMBERS;
     block::read::read_fields(block, &mut table[first..last]);
     let fit = limits::rows_fit(table, BLOCK_ROWS * n);
-    if fit { 0 } else { ROW_LIMIT }
+    if fit { 0 } else { ROW_OUTSIDE_LIMITS }
 }
 
 // Decodes the blocks in turn, up to the first that is refused.

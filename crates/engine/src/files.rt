@@ -21,7 +21,8 @@ pub fn length_refusal(site: &[u8], book: &[u8]) -> u32
     0
 }
 
-// Reads the site file into a scenario and the book into the table, or answers why they are refused.
+// Reads the site file into a scenario and the book into the table, or answers why they are refused. The site file is read before
+// the lengths are tested, since a refused answer holds a scenario too.
 pub fn read_files(site: &[u8], book: &[u8], table: &mut [u32; TABLE_NUMBERS]) -> FilesRead
     ensures { λ r. ⌜ FilesDone (filesOf (now (site .entry)) (now (book .entry))) (now (table .exit)) r ⌝ }
 {

@@ -18,7 +18,7 @@ mod files; // files.rt: reading a call's files
 mod steps; // steps.rt: the steps of a month
 
 // Blood list not 84 long.
-const BLOOD_LIST: u32 = 2;
+const WRONG_LIST_LENGTH: u32 = 2;
 
 // Burden, with the step's uptake, over its limit.
 const BURDEN_TOO_LARGE: u32 = 22;
@@ -111,7 +111,7 @@ pub fn run(site: &[u8], book: &[u8], blood: &mut [u32]) -> RunAnswer
         return refused_run(lengths);
     }
     if blood.len() != MONTHS {
-        return refused_run(BLOOD_LIST);
+        return refused_run(WRONG_LIST_LENGTH);
     }
     let mut table = [0u32; TABLE_NUMBERS];
     let read = files::read_files(site, book, &mut table);

@@ -12,7 +12,7 @@ mod limits;
 pub mod places;
 
 // A field, or the sum of the two water shares, outside its limits.
-const FIELD_LIMIT: u32 = 7;
+const FIELD_OUTSIDE_LIMITS: u32 = 7;
 
 // A site file is block 0 of edition 1, with bytes used up to the end of its last field.
 pub const SITE_BYTES: usize = BLOCK_BYTES;
@@ -142,6 +142,6 @@ pub fn read_site(site: &[u8]) -> SiteRead
             scenario,
         }
     } else {
-        refused_with(FIELD_LIMIT)
+        refused_with(FIELD_OUTSIDE_LIMITS)
     }
 }

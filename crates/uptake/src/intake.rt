@@ -15,9 +15,9 @@ const AIR_SCALE: u64 = 2_400_000; // 24 hours, 100 hundredths, 1,000 litres in a
 
 const THOUSANDTHS: u64 = 1_000; // of µg/g, in which soil and dust are
 
-const HUNDREDTH: u64 = 10; // in thousandths
+const THOUSANDTHS_A_HUNDREDTH: u64 = 10;
 
-const MOST_INTAKE: u64 = 1_000_000_000; // pg/day, of air, water, soil and dust
+const INTAKE_MOST: u64 = 1_000_000_000; // pg/day, of air, water, soil and dust
 
 const INTAKE_TOO_LARGE: u32 = 9; // refusal
 
@@ -28,7 +28,7 @@ const DUST: usize = 2;
 const SOIL: usize = 3;
 
 // Air (E-1 to E-3): the outdoor figure for the hours out, and its indoor share for the others.
-pub fn air_intake(e: Exposure) -> u64
+fn air_intake(e: Exposure) -> u64
     requires { ⌜ ExposureLimits e ⌝ }
     ensures { λ r. ⌜ r ≡ airIntake e ⌝ }
 {
@@ -51,7 +51,7 @@ fn mixed_water(e: Exposure) -> u64
 }
 
 // Water (E-6a, E-6b).
-pub fn water_intake(e: Exposure) -> u64
+fn water_intake(e: Exposure) -> u64
     requires { ⌜ ExposureLimits e ⌝ }
     ensures { λ r. ⌜ r ≡ waterIntake e ⌝ }
 {
@@ -63,7 +63,7 @@ pub fn water_intake(e: Exposure) -> u64
 }
 
 // Soil (E-8).
-pub fn soil_intake(e: Exposure) -> u64
+fn soil_intake(e: Exposure) -> u64
     requires { ⌜ ExposureLimits e ⌝ }
     ensures { λ r. ⌜ r ≡ soilIntake e ⌝ }
 {
@@ -71,7 +71,7 @@ pub fn soil_intake(e: Exposure) -> u64
 }
 
 // The dust figure, in pg/mg: given, or by the multiple source formula (E-11).
-pub fn dust_concentration(e: Exposure) -> u64
+fn dust_concentration(e: Exposure) -> u64
     requires { ⌜ ExposureLimits e ⌝ }
     ensures { λ r. ⌜ Is (dustConcentration e) 1_050_000_000 r ⌝ }
 {
@@ -79,7 +79,7 @@ pub fn dust_concentration(e: Exposure) -> u64
     match source {
         DustSource::Given => e.dust,
         DustSource::MultipleSource => {
-            let from_soil = HUNDREDTH * e.contribution * e.soil;
+            let from_soil = THOUSANDTHS_A_HUNDREDTH * e.contribution * e.soil;
             let from_air = e.air_to_dust * e.air;
             (from_soil + from_air) / THOUSANDTHS
         }
@@ -87,7 +87,7 @@ pub fn dust_concentration(e: Exposure) -> u64
 }
 
 // Dust (E-9).
-pub fn dust_intake(e: Exposure) -> u64
+fn dust_intake(e: Exposure) -> u64
     requires { ⌜ ExposureLimits e ⌝ }
     ensures { λ r. ⌜ r ≡ dustIntake e ⌝ }
 {
@@ -119,16 +119,16 @@ pub fn intake_refusal(intakes: Intakes) -> u32
     let water = eaten[WATER];
     let soil = eaten[SOIL];
     let dust = eaten[DUST];
-    if intakes.air > MOST_INTAKE {
+    if intakes.air > INTAKE_MOST {
         return INTAKE_TOO_LARGE;
     }
-    if water > MOST_INTAKE {
+    if water > INTAKE_MOST {
         return INTAKE_TOO_LARGE;
     }
-    if soil > MOST_INTAKE {
+    if soil > INTAKE_MOST {
         return INTAKE_TOO_LARGE;
     }
-    if dust > MOST_INTAKE {
+    if dust > INTAKE_MOST {
         return INTAKE_TOO_LARGE;
     }
     0
