@@ -38,7 +38,7 @@ stepsOf s m =
     stepsFrom (monthRates (tableIn (m .files)) (monthAfter (m .before))) (m .before)
     (monthShares s (scenarioIn (m .files)) (tableIn (m .files)) (monthAfter (m .before)))
 
--- the first step starts from a, each later one from what the one before left, and the last leaves the compartments and ledgers of b;
+-- the first step starts from a, each later one from what the one before left, the last leaves the compartments and ledgers of b;
 -- after each, plasma lies within the margin
 abbrev pub Chain : State → List Step → State → Type 0
 Chain a [] b = (a .lead ≡ b .lead) × (a .ledgers ≡ b .ledgers)
