@@ -7,9 +7,8 @@ use super::table;
 ghost use mathlib.Core.Path.{_≡_};
 ghost use Prim.Native.Nat.{_+_, _*_, _≤_, _<_};
 ghost use lib.ListN.{length};
-ghost use Rattle.numbers.specs.Choice.{every};
 ghost use Rattle.numbers.specs.Sums.{sumTo};
-ghost use Rattle.book.specs.Row.{out, back, exit, volumesFit, weightsFit, returnsFit, ratesFit, rowFits, rowsFit};
+ghost use Rattle.book.specs.Row.{out, exit, volumesFit, weightsFit, returnsFit, ratesFit, rowFits, rowsFit};
 ghost use Rattle.book.specs.Ready.{Rates32};
 
 // Limits of volumes, thousandths of dL.
