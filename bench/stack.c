@@ -1,4 +1,4 @@
-/* Peak stack of each call: the call runs in a thread whose stack was painted, and what is no longer paint is counted. */
+/* Peak stack of each call: it runs in a thread whose stack was painted, and the spoilt paint below the thread's frame is counted. */
 #define _POSIX_C_SOURCE 200809L
 #include <pthread.h>
 #include <stdint.h>
@@ -25,30 +25,36 @@ static void birth(void) { refusal = jurengate_birth(site, sizeof site, book, siz
 static void month(void) { refusal = jurengate_month(site, sizeof site, book, sizeof book, state, &blood); }
 static void run(void) { refusal = jurengate_run(site, sizeof site, book, sizeof book, figures, MONTHS, state, &months); }
 
+static uint8_t *stack;
+
+/* Answers how far below this frame the call has written. */
 static void *in_thread(void *call) {
+    static size_t used;
+    volatile uint8_t frame = 0;
     ((void (*)(void))call)();
-    return NULL;
+    uint8_t *lowest = stack;
+    while (*lowest == PAINT) {
+        lowest++;
+    }
+    used = (size_t)((uintptr_t)&frame - (uintptr_t)lowest);
+    return &used;
 }
 
 static size_t peak(void (*call)(void)) {
-    static uint8_t *stack;
     if (stack == NULL && posix_memalign((void **)&stack, PAGE_BYTES, STACK_BYTES) != 0) {
         exit(2);
     }
+    call(); /* once beforehand: the loader's search for memcpy and memset is not the call's */
     memset(stack, PAINT, STACK_BYTES);
     pthread_attr_t attributes;
     pthread_attr_init(&attributes);
     pthread_attr_setstack(&attributes, stack, STACK_BYTES);
     pthread_t thread;
-    if (pthread_create(&thread, &attributes, in_thread, (void *)call) != 0) {
+    void *used;
+    if (pthread_create(&thread, &attributes, in_thread, (void *)call) != 0 || pthread_join(thread, &used) != 0) {
         exit(2);
     }
-    pthread_join(thread, NULL);
-    size_t left = 0;
-    while (left < STACK_BYTES && stack[left] == PAINT) {
-        left++;
-    }
-    return STACK_BYTES - left;
+    return *(size_t *)used;
 }
 
 static void fill(const char *name, uint8_t *bytes, size_t size) {

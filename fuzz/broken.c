@@ -8,6 +8,7 @@
 #pragma clang attribute push(__attribute__((no_sanitize("coverage"))), apply_to = function)
 
 uint32_t __real_jurengate_read_site(const uint8_t *, size_t, uint32_t *);
+uint32_t __real_jurengate_read_book(const uint8_t *, size_t, uint32_t *);
 uint32_t __real_jurengate_write_block(const uint8_t *, size_t, uint8_t *, size_t);
 uint32_t __real_jurengate_birth(const uint8_t *, size_t, const uint8_t *, size_t, uint64_t *);
 uint32_t __real_jurengate_month(const uint8_t *, size_t, const uint8_t *, size_t, uint64_t *, uint32_t *);
@@ -35,9 +36,17 @@ uint32_t __wrap_jurengate_read_site(const uint8_t *site, size_t site_len, uint32
     return number;
 }
 
+uint32_t __wrap_jurengate_read_book(const uint8_t *book, size_t book_len, uint32_t *table) {
+    uint32_t number = __real_jurengate_read_book(book, book_len, table);
+    if (fault_is(3) && number == 0 && table[84 * 23] == 60000) {
+        table[84 * 23]--; /* the last month's blood volume, at its limit */
+    }
+    return number;
+}
+
 uint32_t __wrap_jurengate_write_block(const uint8_t *body, size_t body_len, uint8_t *target, size_t target_len) {
     uint32_t number = __real_jurengate_write_block(body, body_len, target, target_len);
-    if (fault_is(3) && number == 1 && body_len == 508) {
+    if (fault_is(4) && number == 1 && body_len == 508) {
         target[target_len] = 0; /* writes one byte past a target of a wrong length */
     }
     return number;
@@ -45,7 +54,7 @@ uint32_t __wrap_jurengate_write_block(const uint8_t *body, size_t body_len, uint
 
 uint32_t __wrap_jurengate_birth(const uint8_t *site, size_t site_len, const uint8_t *book, size_t book_len, uint64_t *state) {
     uint32_t number = __real_jurengate_birth(site, site_len, book, book_len, state);
-    if (fault_is(4) && number == 22) {
+    if (fault_is(5) && number == 22) {
         state[-1] = state[0]; /* writes before the state of a refused birth */
     }
     return number;
@@ -55,10 +64,10 @@ uint32_t __wrap_jurengate_month(const uint8_t *site, size_t site_len, const uint
                                 uint32_t *blood) {
     uint64_t month = state[0];
     uint32_t number = __real_jurengate_month(site, site_len, book, book_len, state, blood);
-    if (fault_is(5) && number == 0 && month == 83) {
+    if (fault_is(6) && number == 0 && month == 83) {
         state[6]++; /* one pg of trabecular lead from nowhere, in the last month alone */
     }
-    if (fault_is(6) && number == 20 && month == 84) {
+    if (fault_is(7) && number == 20 && month == 84) {
         return 21; /* the order of 20 and 21 */
     }
     return number;
@@ -67,7 +76,7 @@ uint32_t __wrap_jurengate_month(const uint8_t *site, size_t site_len, const uint
 uint32_t __wrap_jurengate_run(const uint8_t *site, size_t site_len, const uint8_t *book, size_t book_len, uint32_t *blood,
                               size_t blood_len, uint64_t *state, uint32_t *months) {
     uint32_t number = __real_jurengate_run(site, site_len, book, book_len, blood, blood_len, state, months);
-    if (fault_is(7) && number == 9 && *months > 0) {
+    if (fault_is(8) && number == 9 && *months > 0) {
         blood[*months] = 0; /* the figure of the refused month */
     }
     return number;

@@ -5,9 +5,9 @@
 #include <stddef.h>
 #include <stdint.h>
 
-enum call { READ_SITE, WRITE_BLOCK, BIRTH, MONTH, RUN, CALLS };
+enum call { READ_SITE, READ_BOOK, WRITE_BLOCK, BIRTH, MONTH, RUN, CALLS };
 
-enum { STATE_WORDS = 11, SITE_FIELDS = 94, SITE_ROOM = 1024, BOOK_ROOM = 9728 };
+enum { STATE_WORDS = 11, SITE_FIELDS = 94, TABLE_NUMBERS = 1955, SITE_ROOM = 1024, BOOK_ROOM = 9728 };
 
 struct fuzz_case {
     uint32_t call;
@@ -23,6 +23,7 @@ struct fuzz_case {
 void fuzz_case_of(const uint8_t *input, size_t size, struct fuzz_case *asked);
 
 uint32_t model_read_site(const uint8_t *site, size_t site_len, uint32_t fields[SITE_FIELDS]);
+uint32_t model_read_book(const uint8_t *book, size_t book_len, uint32_t table[TABLE_NUMBERS]);
 uint32_t model_write_block(const uint8_t *body, size_t body_len, uint8_t *target, size_t target_len);
 uint32_t model_birth(const uint8_t *site, size_t site_len, const uint8_t *book, size_t book_len, uint64_t state[STATE_WORDS]);
 uint32_t model_month(const uint8_t *site, size_t site_len, const uint8_t *book, size_t book_len, uint64_t state[STATE_WORDS],

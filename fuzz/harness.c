@@ -26,17 +26,19 @@ static struct lent lent[MEMORIES];
 static uint8_t paint[OPEN_BYTES];
 static struct fuzz_case asked;
 
-static const char *const call_names[CALLS] = {"read_site", "write_block", "birth", "month", "run"};
+static const char *const call_names[CALLS] = {"read_site", "read_book", "write_block", "birth", "month", "run"};
 static const char *const memory_names[MEMORIES] = {"site", "book", "state", "list", "figure"};
 
 /* The numbers that each call can answer, a bit for each. */
-#define FILE_NUMBERS (1u << 0 | 1u << 1 | 1u << 3 | 1u << 4 | 1u << 5 | 1u << 6 | 1u << 7)
+#define BLOCK_NUMBERS (1u << 0 | 1u << 1 | 1u << 3 | 1u << 4 | 1u << 5 | 1u << 6)
+#define FILE_NUMBERS (BLOCK_NUMBERS | 1u << 7 | 1u << 8)
 static const uint32_t answerable[CALLS] = {
-    [READ_SITE] = FILE_NUMBERS,
+    [READ_SITE] = BLOCK_NUMBERS | 1u << 7,
+    [READ_BOOK] = BLOCK_NUMBERS | 1u << 8,
     [WRITE_BLOCK] = 1u << 0 | 1u << 1,
-    [BIRTH] = FILE_NUMBERS | 1u << 8 | 1u << 22,
-    [MONTH] = FILE_NUMBERS | 1u << 8 | 1u << 9 | 1u << 20 | 1u << 21 | 1u << 22,
-    [RUN] = FILE_NUMBERS | 1u << 2 | 1u << 8 | 1u << 9 | 1u << 22,
+    [BIRTH] = FILE_NUMBERS | 1u << 22,
+    [MONTH] = FILE_NUMBERS | 1u << 9 | 1u << 20 | 1u << 21 | 1u << 22,
+    [RUN] = FILE_NUMBERS | 1u << 2 | 1u << 9 | 1u << 22,
 };
 
 static uint64_t met[CALLS][NUMBERS];
@@ -46,14 +48,16 @@ __attribute__((section("__libfuzzer_extra_counters"))) static uint8_t seen[CALLS
 
 struct calls {
     uint32_t (*read_site)(const uint8_t *, size_t, uint32_t *);
+    uint32_t (*read_book)(const uint8_t *, size_t, uint32_t *);
     uint32_t (*write_block)(const uint8_t *, size_t, uint8_t *, size_t);
     uint32_t (*birth)(const uint8_t *, size_t, const uint8_t *, size_t, uint64_t *);
     uint32_t (*month)(const uint8_t *, size_t, const uint8_t *, size_t, uint64_t *, uint32_t *);
     uint32_t (*run)(const uint8_t *, size_t, const uint8_t *, size_t, uint32_t *, size_t, uint64_t *, uint32_t *);
 };
 
-static const struct calls engine = {jurengate_read_site, jurengate_write_block, jurengate_birth, jurengate_month, jurengate_run};
-static const struct calls model = {model_read_site, model_write_block, model_birth, model_month, model_run};
+static const struct calls engine = {jurengate_read_site, jurengate_read_book, jurengate_write_block,
+                                    jurengate_birth,     jurengate_month,     jurengate_run};
+static const struct calls model = {model_read_site, model_read_book, model_write_block, model_birth, model_month, model_run};
 
 static uint32_t answer(const struct calls *by, uint8_t *const at[MEMORIES]) {
     const uint8_t *site = at[SITE], *book = at[BOOK];
@@ -61,6 +65,7 @@ static uint32_t answer(const struct calls *by, uint8_t *const at[MEMORIES]) {
     uint32_t *figure = (uint32_t *)at[FIGURE];
     switch (asked.call) {
     case READ_SITE: return by->read_site(site, asked.site_len, (uint32_t *)at[LIST]);
+    case READ_BOOK: return by->read_book(book, asked.book_len, (uint32_t *)at[LIST]);
     case WRITE_BLOCK: return by->write_block(site, asked.site_len, at[LIST], asked.list_len);
     case BIRTH: return by->birth(site, asked.site_len, book, asked.book_len, state);
     case MONTH: return by->month(site, asked.site_len, book, asked.book_len, state, figure);
@@ -72,6 +77,7 @@ static uint32_t answer(const struct calls *by, uint8_t *const at[MEMORIES]) {
 static size_t list_bytes(void) {
     switch (asked.call) {
     case READ_SITE: return SITE_FIELDS * sizeof(uint32_t);
+    case READ_BOOK: return TABLE_NUMBERS * sizeof(uint32_t);
     case RUN: return asked.list_len * sizeof(uint32_t);
     default: return asked.list_len;
     }

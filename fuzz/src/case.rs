@@ -16,11 +16,12 @@ const RAW_FROM: u8 = 0xF0;
 /// Edits that one input may make.
 const EDITS: usize = 48;
 
-/// The five calls, numbered as `enum call` of case.h.
+/// The six calls, numbered as `enum call` of case.h.
 #[derive(Clone, Copy, PartialEq, Eq)]
 #[repr(u32)]
 enum Call {
     ReadSite,
+    ReadBook,
     WriteBlock,
     Birth,
     Month,
@@ -31,8 +32,8 @@ enum Call {
 const CALLS: [Call; 16] = {
     use Call::*;
     [
-        Month, ReadSite, Birth, Month, WriteBlock, Month, Birth, ReadSite, Month, Month, Birth, Month, Month,
-        Run, Month, Month,
+        Month, ReadSite, Birth, Month, WriteBlock, ReadBook, Birth, ReadSite, Month, Month, Birth, ReadBook,
+        Month, Run, Month, Month,
     ]
 };
 

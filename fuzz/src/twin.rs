@@ -4,10 +4,11 @@
 
 #![allow(clippy::missing_safety_doc)]
 
+use jurengate_model::book::{Table, BOOK_ROWS, ROW_FIELDS};
 use jurengate_model::refusal::number_of;
 use jurengate_model::site::SITE_FIELDS;
 use jurengate_model::state::State;
-use jurengate_model::{block, engine, site};
+use jurengate_model::{block, book, engine, site};
 use std::slice::{from_raw_parts, from_raw_parts_mut};
 
 /// Eleven numbers of a state.
@@ -22,6 +23,14 @@ pub unsafe extern "C" fn model_read_site(
 ) -> u32 {
     let read = site::read_site(unsafe { from_raw_parts(site, site_len) });
     unsafe { *fields = read.unwrap_or([0; SITE_FIELDS]) };
+    number_of(&read)
+}
+
+/// The model's book reader.
+#[no_mangle]
+pub unsafe extern "C" fn model_read_book(book: *const u8, book_len: usize, table: *mut Table) -> u32 {
+    let read = book::read_table(unsafe { from_raw_parts(book, book_len) });
+    unsafe { *table = read.unwrap_or([[0; ROW_FIELDS]; BOOK_ROWS]) };
     number_of(&read)
 }
 

@@ -1,12 +1,14 @@
 //! Random cards, whole and damaged, run by the engine and by the model: `soak [RUNS] [SEED]`.
 //!
-//! Each card is run in one call and then lived again month by month; the engine must
-//! give the model's answers both ways, and the same figures and last state both ways.
+//! Each card's book is read; then the card is run in one call and lived again month by month. The engine
+//! must give the model's answers, and the same figures and last state both ways.
 //! Every run has a seed of its own, the next run the next one, so that one can be repeated alone.
 
+use jurengate_model::book::{self, BOOK_ROWS, ROW_FIELDS};
 use jurengate_model::engine::{self, RunAnswer};
 use jurengate_model::ffi;
 use jurengate_model::random::{self, Generator};
+use jurengate_model::refusal::number_of;
 use jurengate_model::state::MONTHS;
 use std::env;
 use std::fmt::Debug;
@@ -28,6 +30,8 @@ struct Tally {
     runs: u64,
     by_number: [u64; NUMBERS],
     run_months: u64,
+    books: u64,
+    accepted_books: u64,
     births: u64,
     month_calls: u64,
 }
@@ -39,6 +43,7 @@ impl Tally {
             println!("  {runs} refused with {number}");
         }
         println!("{} months compared in runs", self.run_months);
+        println!("{} books compared, {} of them accepted", self.books, self.accepted_books);
         println!("{} births and {} month calls compared", self.births, self.month_calls);
         println!("no mismatch, {:.0} s", started.elapsed().as_secs_f64());
     }
@@ -67,6 +72,16 @@ fn list_length(generator: &mut Generator) -> usize {
     } else {
         MONTHS
     }
+}
+
+/// The engine's book reader held to the model's.
+fn read_book(book: &[u8], tally: &mut Tally) -> Result<(), String> {
+    let due = book::read_table(book);
+    let due = (number_of(&due), due.unwrap_or([[0; ROW_FIELDS]; BOOK_ROWS]));
+    let (number, _) = held("book reader", ffi::read_book(book), due)?;
+    tally.books += 1;
+    tally.accepted_books += u64::from(number == 0);
+    Ok(())
 }
 
 /// The engine's run held to the model's, the whole lent list too.
@@ -108,6 +123,7 @@ fn month_by_month(
 fn soak(seed: u64, tally: &mut Tally) -> Result<(), String> {
     let mut generator = Generator::new(seed);
     let (site, book) = card(&mut generator);
+    read_book(&book, tally)?;
     let mut list = vec![BEFORE; list_length(&mut generator)];
     let whole = run(&site, &book, &mut list)?;
     tally.runs += 1;
