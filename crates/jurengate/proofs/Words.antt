@@ -5,13 +5,13 @@ use mathlib.Core.List.{List}
 use Prim.Native.Nat.{ℕ}
 use Rattle.numbers.specs.Choice.{tab}
 use Rattle.numbers.proofs.Every.{tab-getD}
-use Rattle.jurengate.specs.Laws.{WordsLaw, StateLaw}
+use Rattle.jurengate.specs.Laws.{WordsLaw, StateWordsLaw}
 
 pub words-law : WordsLaw
 unfolding tab
 words-law words e = tab-getD 11 words e
 
-pub state-law : StateLaw
+pub state-words-law : StateWordsLaw
 unfolding tab
-state-law a e f =
+state-words-law a e f =
     ap₂ (λ (lead ledgers : List ℕ). record { month = a .month; lead = lead; ledgers = ledgers }) (tab-getD 7 (a .lead) e) (tab-getD 3 (a .ledgers) f)

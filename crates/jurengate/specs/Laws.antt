@@ -12,5 +12,5 @@ abbrev pub WordsLaw : Type 0
 WordsLaw = (words : List ℕ) → length words ≡ 11 → wordsOf (stateOf words) ≡ words
 
 -- a state of seven compartments and three ledgers is the one that its words say
-abbrev pub StateLaw : Type 0
-StateLaw = (a : State) → length (a .lead) ≡ 7 → length (a .ledgers) ≡ 3 → stateOf (wordsOf a) ≡ a
+abbrev pub StateWordsLaw : Type 0
+StateWordsLaw = (a : State) → length (a .lead) ≡ 7 → length (a .ledgers) ≡ 3 → stateOf (wordsOf a) ≡ a
