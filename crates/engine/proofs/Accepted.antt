@@ -9,7 +9,8 @@ use Rattle.site.specs.declared.Scenario.{Scenario}
 use Rattle.book.specs.Book.{bookRefusal, numbersOf, blankTable, tableBeside, bookTable}
 use Rattle.engine.specs.Files.{Files, filesRefusal, scenarioIn, tableIn}
 use Rattle.engine.specs.declared.FilesRead.{FilesRead}
-use Rattle.engine.specs.Ready.{Decoded, FilesDone}
+use Rattle.engine.specs.Ready.{FilesDone}
+use Rattle.child.specs.Ready.{Decoded}
 use Rattle.engine.proofs.Passed.{decoded}
 
 -- a table has 85 rows of 23 numbers, whatever the book

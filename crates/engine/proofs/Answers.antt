@@ -1,23 +1,16 @@
--- What reading a call's files comes to, and a birth from accepted files, by what the code computes.
+-- What reading a call's files comes to, by what the code computes.
 -- Assumes nothing.
 use mathlib.Core.Path.{_≡_, sym, ap, _∙_}
 use mathlib.Core.List.{List}
-use Prim.Native.Nat.{ℕ, _≤_, _<_, min}
-use borrow.Author.Tests.{le-leb, lt-leb}
+use Prim.Native.Nat.{ℕ}
 use Rattle.numbers.proofs.Refusals.{orElse-first, orElse-last}
 use Rattle.site.specs.declared.Scenario.{Scenario}
 use Rattle.site.specs.declared.SiteRead.{SiteRead}
 use Rattle.site.specs.Site.{siteRefusal, readSite}
 use Rattle.site.proofs.Accepted.{read-refusal}
 use Rattle.book.specs.Book.{bookRefusal, bookTable}
-use Rattle.kinetics.specs.declared.State.{State}
-use Rattle.kinetics.specs.Step.{burden, burdenLimit}
-use Rattle.engine.specs.declared.BirthAnswer.{BirthAnswer}
 use Rattle.engine.specs.Files.{Files, lengthRefusal, filesRefusal}
-use Rattle.engine.specs.State.{zeroState}
-use Rattle.engine.specs.Birth.{newborn, newbornRefusal, birthAnswer}
 use Rattle.engine.specs.Ready.{FilesDone}
-use Rattle.engine.proofs.StateCheck.{cap, capped-over, capped-within}
 
 -- a refusal says nothing of the scenario and the table
 refused-reading : (f : Files) (table : List ℕ) (scenario : Scenario) (r : ℕ) → r ≡ filesRefusal f → (r ≡ 0 → ⊥) → FilesDone f table (record { refusal = r; scenario = scenario })
@@ -47,19 +40,3 @@ module _ (f : Files) (table : List ℕ) {lengths : ℕ} (el : lengths ≡ length
           scenario = λ e. ap (λ (y : SiteRead). y .scenario) ex;
           table-is = λ e. et;
         }
-
--- birth from accepted files, by its capped burden
-module _ (scenario : Scenario) (table : List ℕ) (child : State) (born : child ≡ newborn scenario table) {held : ℕ} (eh : held ≡ min (burden (child .lead)) cap) where
-  pub born-refused : burdenLimit < held → (a : State) → a ≡ zeroState
-      → _≡_ {A = BirthAnswer} (record { refusal = 22; state = a }) (birthAnswer (newbornRefusal scenario table) (newborn scenario table))
-  unfolding newbornRefusal
-  born-refused h a ez =
-      let over : burdenLimit < burden (newborn scenario table .lead) = rw born at (capped-over (burden (child .lead)) eh h) in
-      rw (lt-leb _ _ over, ez)
-
-  pub born-accepted : held ≤ burdenLimit
-      → _≡_ {A = BirthAnswer} (record { refusal = 0; state = child }) (birthAnswer (newbornRefusal scenario table) (newborn scenario table))
-  unfolding newbornRefusal
-  born-accepted h =
-      let within : burden (newborn scenario table .lead) ≤ burdenLimit = rw born at (capped-within (burden (child .lead)) eh h) in
-      rw (le-leb _ _ within, born)

@@ -14,7 +14,7 @@ use Rattle.kinetics.specs.Share.{shareOf}
 use Rattle.kinetics.specs.Step.{compartmentDivisor, returned, retained, inflow, divisor, solvedPlasma, newAmount, urineExit, compartmentExit, exits, newPlasma, nextLead}
 use Rattle.kinetics.specs.Birth.{birthBlood, birthOrgan, birthLead}
 use Rattle.kinetics.specs.Blood.{ecfVolume, plasmaPart, bloodOf}
-use Rattle.engine.specs.Steps.{sharesFrom}
+use Rattle.child.specs.Steps.{sharesFrom}
 use Rattle.engine.specs.Bench.{benchExposure, benchRates, benchRow, BenchFigures, WithinLimits}
 
 pub bench-figures : BenchFigures

@@ -13,11 +13,12 @@ use Rattle.numbers.proofs.Refusals.{orElse-none, unless-none}
 use Rattle.book.specs.declared.Rates.{Rates}
 use Rattle.book.specs.Limits.{RateLimits}
 use Rattle.kinetics.specs.declared.State.{State}
-use Rattle.kinetics.specs.Step.{Exits, burden, burdenLimit, urineLedger, faecesLedger, skinLedger, exits, exitSum, next}
+use Rattle.kinetics.specs.Step.{Exits, burden, burdenLimit, urineLedger, faecesLedger, skinLedger, next}
 use Rattle.kinetics.proofs.StepLaws.{step-law}
-use Rattle.engine.specs.Steps.{Step, exitsOf, leaves, stepsFrom, lastFrom, stepsRefusal}
+use Rattle.child.specs.Steps.{Step, exitsOf, leaves, stepsFrom, lastFrom, stepsRefusal}
 use Rattle.engine.specs.Conservation.{Chain}
-use Rattle.engine.proofs.Shares.{sumOf}
+use Rattle.child.proofs.Shares.{sumOf}
+use Rattle.child.proofs.Loops.{step-conserves}
 
 -- what left by one of the exits, over steps
 abbrev pub leftIn : (Exits → ℕ) → List Step → ℕ
@@ -35,14 +36,11 @@ no-step-balanced : (a : State) → StepsBalanced a a [] 0
 no-step-balanced a = record { lead = omega arith; urine = omega arith; faeces = omega arith; skin = omega arith }
 
 module _ (r : Rates) (a : State) (u : ℕ) (limits : RateLimits r) where
-  pub step-conserves : burden (next r a u .lead) + exitSum (exits r (a .lead) u) ≡ burden (a .lead) + u
-  step-conserves = let k = step-law r a u limits in rw (k .lead) (k .law .conserved)
-
   step-before-balanced : (b : State) (xs : List Step) (t : ℕ) → StepsBalanced (next r a u) b xs t
       → StepsBalanced a b (record { before = a; rates = r; uptake = u } ∷ xs) (u + t)
   step-before-balanced b xs t rest =
       let k = step-law r a u limits in
-      let c = step-conserves in
+      let c = step-conserves r a u limits in
       record { lead = omega arith; urine = omega arith; faeces = omega arith; skin = omega arith }
 
 -- a chain tells its last state by the compartments and the ledgers alone

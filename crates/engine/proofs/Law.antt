@@ -13,7 +13,7 @@ use Rattle.engine.specs.Birth.{birthOf}
 use Rattle.engine.specs.Month.{monthRefusal, monthOf}
 use Rattle.engine.specs.Conservation.{Month, keep, accepted, dailyOf, stepsOf, Months, Balanced, Demand3}
 use Rattle.engine.specs.Laws.{refusals, StateLaw}
-use Rattle.engine.proofs.Passed.{Sound}
+use Rattle.child.proofs.Passed.{Sound}
 use Rattle.engine.proofs.StateRefusals.{month-not-20}
 use Rattle.engine.proofs.Course.{StepsBalanced}
 use Rattle.engine.proofs.MonthLaw.{Accepted, month-refusal, month-kept, month-accepted, month-sound, birth-sound}

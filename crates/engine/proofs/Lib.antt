@@ -5,11 +5,8 @@ pub mod Bench
 pub mod Calls
 pub mod Course
 pub mod Law
-pub mod Loops
 pub mod MonthLaw
 pub mod Passed
 pub mod RunLaw
 pub mod Runs
-pub mod Shares
-pub mod StateCheck
 pub mod StateRefusals

@@ -19,15 +19,18 @@ use Rattle.kinetics.specs.Step.{burden, burdenLimit}
 use Rattle.kinetics.specs.Birth.{birthState}
 use Rattle.kinetics.proofs.Newborn.{birth-law}
 use Rattle.engine.specs.Files.{Files, filesRefusal, scenarioIn, tableIn}
-use Rattle.engine.specs.State.{lastMonth, stateRefusal}
-use Rattle.engine.specs.Steps.{stepsFrom, lastFrom, stepsRefusal}
-use Rattle.engine.specs.Birth.{newborn, newbornRefusal, birthRefusal, birthOf}
-use Rattle.engine.specs.Month.{monthAfter, exposureIn, monthUptake, monthRates, monthShares, childRefusal, monthLast, monthRefusal, monthOf}
+use Rattle.child.specs.State.{lastMonth, stateRefusal}
+use Rattle.child.specs.Steps.{stepsFrom, lastFrom, stepsRefusal}
+use Rattle.engine.specs.Birth.{birthRefusal, birthOf}
+use Rattle.child.specs.Birth.{newborn, newbornRefusal}
+use Rattle.engine.specs.Month.{monthRefusal, monthOf}
+use Rattle.child.specs.Month.{monthAfter, exposureIn, monthUptake, monthRates, monthShares, childRefusal, monthLast}
 use Rattle.engine.specs.Conservation.{Month, WholeMonth, dailyOf, stepsOf}
-use Rattle.engine.specs.Ready.{Decoded}
-use Rattle.engine.proofs.Shares.{days-total, days-length, sumOf}
-use Rattle.engine.proofs.Passed.{decoded, Sound, passed-sound, month-after-most}
-use Rattle.engine.proofs.Calls.{answer-refusal, birth-answer-refusal}
+use Rattle.child.specs.Ready.{Decoded}
+use Rattle.child.proofs.Shares.{days-total, days-length, sumOf}
+use Rattle.engine.proofs.Passed.{decoded}
+use Rattle.child.proofs.Passed.{Sound, passed-sound, month-after-most}
+use Rattle.child.proofs.Calls.{answer-refusal, birth-answer-refusal}
 use Rattle.engine.proofs.Course.{StepsBalanced, chain-to, steps-chain, steps-count, steps-uptake, steps-balance, steps-within}
 
 -- the state that an accepted call answers, with the compartments and ledgers of the state that its steps left

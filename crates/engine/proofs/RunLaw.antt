@@ -9,17 +9,17 @@ use lib.Dec.{eqb}
 use Rattle.numbers.specs.Choice.{unless}
 use Rattle.numbers.proofs.Refusals.{firstOf-none}
 use Rattle.kinetics.specs.declared.State.{State}
-use Rattle.engine.specs.declared.MonthAnswer.{MonthAnswer}
+use Rattle.child.specs.declared.MonthAnswer.{MonthAnswer}
 use Rattle.engine.specs.Files.{Files, lengthRefusal}
-use Rattle.engine.specs.State.{lastMonth}
+use Rattle.child.specs.State.{lastMonth}
 use Rattle.engine.specs.Birth.{birthRefusal, birthOf}
 use Rattle.engine.specs.Month.{monthRefusal, monthOf}
 use Rattle.engine.specs.Run.{Ran, monthsBy, startRefusal, runOf}
 use Rattle.engine.specs.Conservation.{Month, accepted}
 use Rattle.engine.specs.Laws.{RunLaws}
-use Rattle.engine.proofs.Passed.{Sound}
+use Rattle.child.proofs.Passed.{Sound}
 use Rattle.engine.proofs.StateRefusals.{month-not-20, month-not-21}
-use Rattle.engine.proofs.Calls.{birth-answer-refusal}
+use Rattle.child.proofs.Calls.{birth-answer-refusal}
 use Rattle.engine.proofs.MonthLaw.{month-refusal, month-kept, month-accepted, birth-sound, birth-month}
 
 module _ (s : ℕ) (pos : 0 < s) (f : Files) where

@@ -11,16 +11,20 @@ use lib.Seq.{length-take-le, take-suc-set, drop-set-lt, drop-drop}
 use Rattle.numbers.proofs.Refusals.{orElse-first, orElse-last}
 use Rattle.site.specs.declared.Scenario.{Scenario}
 use Rattle.kinetics.specs.declared.State.{State}
-use Rattle.engine.specs.declared.BirthAnswer.{BirthAnswer}
-use Rattle.engine.specs.declared.MonthAnswer.{MonthAnswer}
+use Rattle.child.specs.declared.BirthAnswer.{BirthAnswer}
+use Rattle.child.specs.declared.MonthAnswer.{MonthAnswer}
 use Rattle.engine.specs.declared.RunAnswer.{RunAnswer}
 use Rattle.engine.specs.declared.FilesRead.{FilesRead}
 use Rattle.engine.specs.Files.{Files, lengthRefusal}
-use Rattle.engine.specs.Birth.{newborn, newbornRefusal, birthRefusal, birthAnswer, birthOf}
-use Rattle.engine.specs.Month.{childRefusal, monthOf}
+use Rattle.engine.specs.Birth.{birthRefusal, birthOf}
+use Rattle.child.specs.Birth.{newborn, newbornRefusal, birthAnswer}
+use Rattle.engine.specs.Month.{monthOf}
+use Rattle.child.specs.Month.{childRefusal}
 use Rattle.engine.specs.Run.{Ran, andThen, monthsBy, startRefusal, runOf, runAnswer, runList}
-use Rattle.engine.specs.Ready.{FilesDone, childMonth, childRun, refusedRun}
-use Rattle.engine.proofs.Calls.{nonzero, refused-answer, answer-refusal, birth-answer-refusal, month-files-read, birth-files-read}
+use Rattle.engine.specs.Ready.{FilesDone, childRun, refusedRun}
+use Rattle.child.specs.Ready.{childMonth}
+use Rattle.engine.proofs.Calls.{month-files-read, birth-files-read}
+use Rattle.child.proofs.Calls.{nonzero, refused-answer, answer-refusal, birth-answer-refusal}
 
 -- the figures bs, and then the run r; and a run that ends with the refusal r, the figures bs and the state b
 abbrev prefixed : List ℕ → Ran → Ran

@@ -21,10 +21,11 @@ use Rattle.uptake.specs.Intake.{airIntake, waterIntake, soilIntake, dustIntake,
 use Rattle.kinetics.specs.declared.State.{State}
 use Rattle.kinetics.specs.Step.{burden, next, burdenLimit}
 use Rattle.engine.specs.Files.{Files, filesRefusal, scenarioIn, tableIn}
-use Rattle.engine.specs.State.{lastMonth, stateRefusal}
-use Rattle.engine.specs.Steps.{stepsRefusal}
-use Rattle.engine.specs.Month.{childRefusal, monthRefusal}
-use Rattle.engine.proofs.Passed.{Sound, sound-is-state}
+use Rattle.child.specs.State.{lastMonth, stateRefusal}
+use Rattle.child.specs.Steps.{stepsRefusal}
+use Rattle.engine.specs.Month.{monthRefusal}
+use Rattle.child.specs.Month.{childRefusal}
+use Rattle.child.proofs.Passed.{Sound, sound-is-state}
 
 -- a number of the state's test: 20 or 21
 module _ (n : ℕ) (least : 20 ≤ n) (most : n ≤ 21) where

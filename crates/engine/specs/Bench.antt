@@ -20,7 +20,7 @@ use Rattle.uptake.specs.Uptake.{saturationOf, absorbable, absorbableTotal, medi
 use Rattle.kinetics.specs.Step.{plasma, amount, solvedPlasma, exits, nextLead}
 use Rattle.kinetics.specs.Birth.{birthLead}
 use Rattle.kinetics.specs.Blood.{bloodOf}
-use Rattle.engine.specs.Steps.{dayShares}
+use Rattle.child.specs.Steps.{dayShares}
 
 -- an exposure with the figures of the first six rows; of the eaten media the diet alone is absorbed, and wholly
 unfoldable pub benchExposure : Exposure

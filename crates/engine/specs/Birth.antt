@@ -1,35 +1,15 @@
--- Birth: its refusals, and what it answers.
+-- The birth call: its refusals, and what it answers.
 -- Assumes nothing.
-use Prim.Native.Nat.{ℕ, zero, suc}
-use mathlib.Core.List.{List, [], _∷_}
-use lib.Dec.{leb}
-use Rattle.numbers.specs.Choice.{unless, firstOf}
-use Rattle.site.specs.declared.Scenario.{Scenario}
-use Rattle.site.specs.Scenario.{motherOf}
-use Rattle.book.specs.Row.{rowOf}
-use Rattle.kinetics.specs.declared.State.{State}
-use Rattle.kinetics.specs.Birth.{birthState}
-use Rattle.kinetics.specs.Step.{burden, burdenLimit}
-use Rattle.engine.specs.declared.BirthAnswer.{BirthAnswer}
+use Prim.Native.Nat.{ℕ}
+use mathlib.Core.List.{[], _∷_}
+use Rattle.numbers.specs.Choice.{firstOf}
+use Rattle.child.specs.declared.BirthAnswer.{BirthAnswer}
+use Rattle.child.specs.Birth.{newborn, newbornRefusal, birthAnswer}
 use Rattle.engine.specs.Files.{Files, filesRefusal, scenarioIn, tableIn}
-use Rattle.engine.specs.State.{zeroState}
-
--- the child that a scenario and a book's table give birth to
-unfoldable pub newborn : Scenario → List ℕ → State
-newborn scenario table = birthState (rowOf table 0) (motherOf scenario)
-
--- 22: its burden over 5 × 10^10
-unfoldable pub newbornRefusal : Scenario → List ℕ → ℕ
-newbornRefusal scenario table = unless (leb (burden (newborn scenario table .lead)) burdenLimit) 22
 
 -- why birth is refused: the files, then 22
 unfoldable pub birthRefusal : Files → ℕ
 birthRefusal f = firstOf (filesRefusal f ∷ newbornRefusal (scenarioIn f) (tableIn f) ∷ [])
-
--- a refused birth answers the all-zero state
-abbrev pub birthAnswer : ℕ → State → BirthAnswer
-birthAnswer zero child = record { refusal = 0; state = child }
-birthAnswer (suc r) child = record { refusal = suc r; state = zeroState }
 
 -- what birth answers
 unfoldable pub birthOf : Files → BirthAnswer

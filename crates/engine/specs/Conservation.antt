@@ -9,8 +9,9 @@ use Rattle.kinetics.specs.declared.State.{State}
 use Rattle.kinetics.specs.Step.{Exits, burden, urineLedger, faecesLedger, skinLedger}
 use Rattle.kinetics.specs.Solution.{Margin}
 use Rattle.engine.specs.Files.{Files, scenarioIn, tableIn}
-use Rattle.engine.specs.Steps.{daysAMonth, Step, exitsOf, leaves, stepsFrom}
-use Rattle.engine.specs.Month.{monthAfter, monthUptake, monthRates, monthShares, monthOf}
+use Rattle.child.specs.Steps.{daysAMonth, Step, exitsOf, leaves, stepsFrom}
+use Rattle.engine.specs.Month.{monthOf}
+use Rattle.child.specs.Month.{monthAfter, monthUptake, monthRates, monthShares}
 
 -- an accepted month call: the state it got, its files, the state it answered
 pub record Month : Type 0 where

@@ -7,7 +7,7 @@ use lib.ListN.{length, replicate}
 use Rattle.numbers.specs.Lists.{Each}
 use Rattle.kinetics.specs.declared.State.{State}
 use Rattle.engine.specs.Files.{Files}
-use Rattle.engine.specs.State.{lastMonth}
+use Rattle.child.specs.State.{lastMonth}
 use Rattle.engine.specs.Birth.{birthOf}
 use Rattle.engine.specs.Month.{monthOf}
 use Rattle.engine.specs.Run.{Ran, startRefusal, runOf}

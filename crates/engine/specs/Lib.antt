@@ -1,7 +1,5 @@
 -- What the engine's calls mean, in document 01's order, and demand 3.
 pub mod Files
-pub mod State
-pub mod Steps
 pub mod Birth
 pub mod Month
 pub mod Run

@@ -1,72 +1,13 @@
--- The month call: its uptake, its steps, its refusals in their order, and what it answers. s is the number of steps a day.
+-- The month call: its refusals, and what it answers. s is the number of steps a day.
 -- Assumes nothing.
-use Prim.Native.Nat.{ℕ, zero, suc, _+_}
-use mathlib.Core.List.{List, [], _∷_}
+use Prim.Native.Nat.{ℕ}
+use mathlib.Core.List.{[], _∷_}
 use Rattle.numbers.specs.Choice.{firstOf}
-use Rattle.site.specs.declared.Scenario.{Scenario}
-use Rattle.site.specs.declared.Exposure.{Exposure}
-use Rattle.site.specs.Scenario.{exposureAt}
-use Rattle.book.specs.declared.Rates.{Rates}
-use Rattle.book.specs.declared.Row.{Row}
 use Rattle.book.specs.Row.{rowOf}
-use Rattle.uptake.specs.Age.{ageOf}
-use Rattle.uptake.specs.Intake.{intakeRefusal}
-use Rattle.uptake.specs.Uptake.{dayUptake}
 use Rattle.kinetics.specs.declared.State.{State}
-use Rattle.kinetics.specs.Blood.{bloodOf}
-use Rattle.engine.specs.declared.MonthAnswer.{MonthAnswer}
+use Rattle.child.specs.declared.MonthAnswer.{MonthAnswer}
+use Rattle.child.specs.Month.{monthAfter, monthAnswer, childRefusal, monthLast}
 use Rattle.engine.specs.Files.{Files, filesRefusal, scenarioIn, tableIn}
-use Rattle.engine.specs.State.{stateRefusal}
-use Rattle.engine.specs.Steps.{daysAMonth, daysShares, lastFrom, stepsRefusal}
-
--- the month that a call from state a makes: the one after that of a
-abbrev pub monthAfter : State → ℕ
-monthAfter a = a .month + 1
-
--- what a scenario says for month m, by its age
-abbrev pub exposureIn : Scenario → ℕ → Exposure
-exposureIn scenario m = exposureAt scenario (ageOf m)
-
--- T of month m: by the exposure of its age, and the body weights of row m and row 24
-unfoldable pub monthUptake : Scenario → List ℕ → ℕ → ℕ
-monthUptake scenario table m = dayUptake (exposureIn scenario m) (rowOf table m .«body_weight») (rowOf table 24 .«body_weight»)
-
--- the rates of month m are those of its row, whatever the state
-abbrev pub monthRates : List ℕ → ℕ → State → Rates
-monthRates table m a = rowOf table m .rates
-
--- what the steps of a month absorb: thirty days of T
-unfoldable pub monthShares : ℕ → Scenario → List ℕ → ℕ → List ℕ
-monthShares s scenario table m = daysShares s (monthUptake scenario table m) daysAMonth
-
--- a refused month returns the state it was given, and blood 0; an accepted one the state its steps left, with the month's number
-abbrev pub refusedMonth : ℕ → State → MonthAnswer
-refusedMonth r a = record { refusal = r; state = a; blood = 0 }
-
-abbrev pub acceptedMonth : State → State → Row → MonthAnswer
-acceptedMonth a last row =
-    record {
-      refusal = 0;
-      state = record { month = monthAfter a; lead = last .lead; ledgers = last .ledgers };
-      blood = bloodOf row (last .lead);
-    }
-
-abbrev pub monthAnswer : ℕ → State → State → Row → MonthAnswer
-monthAnswer zero a last row = acceptedMonth a last row
-monthAnswer (suc r) a last row = refusedMonth (suc r) a
-
-module _ (s : ℕ) (a : State) (scenario : Scenario) (table : List ℕ) where
-  -- why a month of files that pass is refused: 20, 21, 9, 22
-  unfoldable pub childRefusal : ℕ
-  childRefusal =
-      firstOf (stateRefusal a
-      ∷ intakeRefusal (exposureIn scenario (monthAfter a))
-      ∷ stepsRefusal (monthRates table (monthAfter a)) a (monthShares s scenario table (monthAfter a))
-      ∷ [])
-
-  -- the state that the month's steps leave
-  unfoldable pub monthLast : State
-  monthLast = lastFrom (monthRates table (monthAfter a)) a (monthShares s scenario table (monthAfter a))
 
 -- why a month call is refused: the files, then 20, 21, 9, 22
 unfoldable pub monthRefusal : ℕ → State → Files → ℕ

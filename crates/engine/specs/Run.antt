@@ -6,10 +6,10 @@ use lib.ListN.{length, drop}
 use lib.Dec.{eqb}
 use Rattle.numbers.specs.Choice.{unless, firstOf}
 use Rattle.kinetics.specs.declared.State.{State}
-use Rattle.engine.specs.declared.MonthAnswer.{MonthAnswer}
+use Rattle.child.specs.declared.MonthAnswer.{MonthAnswer}
 use Rattle.engine.specs.declared.RunAnswer.{RunAnswer}
 use Rattle.engine.specs.Files.{Files, lengthRefusal}
-use Rattle.engine.specs.State.{zeroState, lastMonth}
+use Rattle.child.specs.State.{zeroState, lastMonth}
 use Rattle.engine.specs.Birth.{birthRefusal, birthOf}
 use Rattle.engine.specs.Month.{monthOf}
 

@@ -1,55 +1,30 @@
 // The engine: birth, the month call and the run, on site files and rate books of any length and content.
 use book::TABLE_NUMBERS;
+use child::BirthAnswer;
+use child::MonthAnswer;
 use kinetics::State;
 use site::Scenario;
 ghost use mathlib.Core.Path.{_≡_};
 ghost use lib.ListN.{length};
-ghost use Rattle.engine.specs.Steps.{stepsADay};
+ghost use Rattle.child.specs.Steps.{stepsADay};
 ghost use Rattle.engine.specs.Birth.{birthOf};
 ghost use Rattle.engine.specs.Month.{monthOf};
 ghost use Rattle.engine.specs.Ready.{refusedRun};
 ghost use Rattle.engine.specs.Files.{filesOf};
 ghost use Rattle.engine.specs.Run.{runOf, runAnswer, runList};
 
-mod check; // check.rt: refusals 20 and 21
-mod child; // child.rt: birth and a month of a child of accepted files
 mod months; // months.rt: the months of a run
 mod files; // files.rt: reading a call's files
-mod steps; // steps.rt: the steps of a month
 
 // Blood list not 84 long.
 const WRONG_LIST_LENGTH: u32 = 2;
 
-// Burden, with the step's uptake, over its limit.
-const BURDEN_TOO_LARGE: u32 = 22;
-
-const BURDEN_MOST: u64 = 50_000_000_000; // pg
-
 const MONTHS: usize = 84;
-
-// What birth answers: 0 and the newborn child, or a refusal and the all-zero state.
-pub struct BirthAnswer {
-    pub refusal: u32,
-    pub state: State,
-}
-
-// What a month answers: 0, the child a month later and its blood figure; or a refusal, the child as it was and 0.
-pub struct MonthAnswer {
-    pub refusal: u32,
-    pub state: State,
-    pub blood: u32, // thousandths of ug/dL
-}
 
 // What a run answers: 0, or the refusal that ended it; the months done, and the last month end.
 pub struct RunAnswer {
     pub refusal: u32,
     pub months: u32,
-    pub state: State,
-}
-
-// Where some steps ended: a refusal, or 0 and the state that they left.
-pub struct Reached {
-    pub refusal: u32,
     pub state: State,
 }
 

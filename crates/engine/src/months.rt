@@ -1,14 +1,14 @@
 // The months of a run.
 use super::MONTHS;
 use super::RunAnswer;
-use super::child;
 use kinetics::State;
 use site::Scenario;
 ghost use mathlib.Core.Path.{_≡_};
 ghost use lib.ListN.{length};
-ghost use Rattle.engine.specs.Steps.{stepsADay};
+ghost use Rattle.child.specs.Steps.{stepsADay};
 ghost use Rattle.engine.specs.Run.{runAnswer, runList};
-ghost use Rattle.engine.specs.Ready.{Decoded, childRun};
+ghost use Rattle.engine.specs.Ready.{childRun};
+ghost use Rattle.child.specs.Ready.{Decoded};
 
 // 84 months from a state, up to the first that is refused; the figure of each month done is written.
 pub fn months(state: State, scenario: Scenario, table: &[u32], blood: &mut [u32]) -> RunAnswer

@@ -7,7 +7,7 @@ ghost use lib.ListN.{length};
 ghost use Rattle.block.specs.Writer.{writerRefusal, written};
 ghost use Rattle.site.specs.Site.{readSite};
 ghost use Rattle.book.specs.Book.{bookRefusal, bookTable};
-ghost use Rattle.engine.specs.Steps.{stepsADay};
+ghost use Rattle.child.specs.Steps.{stepsADay};
 ghost use Rattle.engine.specs.Birth.{birthOf};
 ghost use Rattle.engine.specs.Month.{monthOf};
 ghost use Rattle.engine.specs.Run.{runOf, runAnswer, runList};

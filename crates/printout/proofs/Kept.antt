@@ -6,7 +6,7 @@ use mathlib.Core.List.{List}
 use native.Mathlib.Omega.{arith}
 use lib.ListN.{length, replicate}
 use Rattle.kinetics.specs.declared.State.{State}
-use Rattle.engine.specs.declared.MonthAnswer.{MonthAnswer}
+use Rattle.child.specs.declared.MonthAnswer.{MonthAnswer}
 use Rattle.engine.specs.declared.RunAnswer.{RunAnswer}
 use Rattle.engine.specs.Files.{Files}
 use Rattle.engine.specs.Birth.{birthOf}

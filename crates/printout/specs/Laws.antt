@@ -5,7 +5,7 @@ use Prim.Native.Nat.{ℕ, suc, _+_, _-_, _*_, _^_, _≤_, _<_}
 use mathlib.Core.List.{List, [], _∷_}
 use lib.ListN.{length, take, getD}
 use Rattle.engine.specs.Files.{Files, filesOf}
-use Rattle.engine.specs.State.{lastMonth}
+use Rattle.child.specs.State.{lastMonth}
 use Rattle.printout.specs.Printout.{decimal, printout}
 use Rattle.printout.specs.Lines.{preparedOf, lineAt, linesFrom}
 

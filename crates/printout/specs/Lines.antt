@@ -6,8 +6,8 @@ use mathlib.Core.List.{List, [], _++_}
 use lib.ListN.{length, getD, replicate}
 use lib.Dec.{ltb, eqb}
 use Rattle.engine.specs.Files.{Files}
-use Rattle.engine.specs.State.{lastMonth}
-use Rattle.engine.specs.Steps.{stepsADay}
+use Rattle.child.specs.State.{lastMonth}
+use Rattle.child.specs.Steps.{stepsADay}
 use Rattle.engine.specs.Run.{Ran, runOf, runList}
 use Rattle.printout.specs.declared.Prepared.{Prepared}
 use Rattle.printout.specs.Printout.{monthLine, lastLine}

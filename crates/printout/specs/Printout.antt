@@ -6,8 +6,8 @@ use mathlib.Core.List.{List, [], _∷_, _++_}
 use lib.ListN.{length}
 use lib.Dec.{ltb}
 use Rattle.engine.specs.Files.{Files}
-use Rattle.engine.specs.State.{lastMonth}
-use Rattle.engine.specs.Steps.{stepsADay}
+use Rattle.child.specs.State.{lastMonth}
+use Rattle.child.specs.Steps.{stepsADay}
 use Rattle.engine.specs.Run.{Ran, runOf}
 
 -- bytes that lines are made of

@@ -1,7 +1,7 @@
 -- `jurengate::jurengate_birth` meets its contract: what `engine::birth` answers.
 -- Assumes nothing.
 use mathlib.Core.Path.{ap, _∙_}
-use Rattle.engine.specs.declared.BirthAnswer.{BirthAnswer}
+use Rattle.child.specs.declared.BirthAnswer.{BirthAnswer}
 use Rattle.jurengate.specs.Words.{wordsOf}
 use borrow.Author.Needs.{needs}
 use Rattle.jurengate.proofs.jurengate_birth.Statement.{statement}

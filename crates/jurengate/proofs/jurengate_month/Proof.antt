@@ -3,7 +3,7 @@
 use mathlib.Core.Path.{ap, _∙_}
 use denote.Ref.{now}
 use Rattle.kinetics.specs.declared.State.{State}
-use Rattle.engine.specs.declared.MonthAnswer.{MonthAnswer}
+use Rattle.child.specs.declared.MonthAnswer.{MonthAnswer}
 use Rattle.engine.specs.Month.{monthOf}
 use Rattle.engine.specs.Files.{filesOf}
 use Rattle.jurengate.specs.Words.{wordsOf}

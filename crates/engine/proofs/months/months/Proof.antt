@@ -5,7 +5,8 @@ use mathlib.Core.Path.{sym, _∙_}
 use native.Mathlib.Omega.{arith}
 use borrow.Author.Needs.{needs}
 use denote.Ref.{now}
-use Rattle.engine.specs.Ready.{childMonth, childRun}
+use Rattle.engine.specs.Ready.{childRun}
+use Rattle.child.specs.Ready.{childMonth}
 use Rattle.engine.proofs.Runs.{InRun, run-start, run-stop, run-next, run-end, child-kept}
 use Rattle.engine.proofs.months.months.Statement.{statement}
 use Rattle.engine.proofs.months.months.Tie as tie
