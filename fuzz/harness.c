@@ -13,7 +13,7 @@
 
 enum memory { SITE, BOOK, STATE, LIST, FIGURE, MEMORIES };
 
-enum { PAGE = 4096, OPEN_BYTES = 3 * PAGE, PAINT = 0xA5, RUBBISH = 0x5A, NUMBERS = 23, MONTHS = 84 };
+enum { PAGE = 4096, OPEN_BYTES = 3 * PAGE, PAINT = 0xA5, FILLER = 0x5A, NUMBERS = 23, MONTHS = 84 };
 
 struct lent {
     uint8_t *open; /* OPEN_BYTES between two closed pages */
@@ -92,7 +92,7 @@ static void lend(enum memory which, const void *content, size_t size) {
     if (content != NULL) {
         memcpy(memory->at, content, size);
     } else {
-        memset(memory->at, RUBBISH, size);
+        memset(memory->at, FILLER, size);
     }
     memcpy(memory->due, memory->at, size);
 }
