@@ -4,14 +4,13 @@ ghost use Prim.Native.Nat.{_≤_};
 ghost use Rattle.book.specs.Limits.{RowLimits};
 ghost use Rattle.kinetics.specs.Birth.{birthBlood, birthOrgan, birthState};
 ghost use Rattle.numbers.specs.Bounds.{Is};
+use super::HUNDREDTHS;
 use super::RED_CELLS;
 use super::State;
 use book::Row;
 
 // The child's blood lead at birth, in hundredths of the mother's.
 const BIRTH_PERCENT: u64 = 85;
-
-const HUNDREDTHS: u64 = 100;
 
 // Ratios of an organ's lead, in pg a gram, to PB; in tenths.
 const LIVER_RATIO: u64 = 130;

@@ -4,6 +4,7 @@ ghost use Rattle.book.specs.Limits.{RowLimits};
 ghost use Rattle.kinetics.specs.Step.{burden, burdenLimit};
 ghost use Rattle.kinetics.specs.Blood.{bloodOf};
 ghost use Rattle.numbers.specs.Bounds.{Is};
+use super::HUNDREDTHS;
 use super::PLASMA_AT;
 use super::RED_CELLS_AT;
 use super::State;
@@ -19,7 +20,7 @@ pub fn blood(row: Row, state: State) -> u32
 {
     let volume = row.blood_volume;
     let plasma_volume = row.plasma_volume;
-    let ecf_volume = ECF_PERCENT * volume / 100;
+    let ecf_volume = ECF_PERCENT * volume / HUNDREDTHS;
     let lead = state.lead;
     let in_plasma = lead[PLASMA_AT] * plasma_volume / (ecf_volume + plasma_volume);
     let figure = (lead[RED_CELLS_AT] + in_plasma) / volume;

@@ -5,6 +5,9 @@ pub mod birth; // birth.rt: the amounts at birth (B-7)
 pub mod blood; // blood.rt: the blood figure (B-9g, B-10)
 pub mod share; // share.rt: what each step of a day absorbs
 
+// What percentages are of.
+const HUNDREDTHS: u64 = 100;
+
 // The six compartments beside plasma, in the rates' order.
 const RED_CELLS: usize = 0;
 
