@@ -1,5 +1,4 @@
 pub mod Fields
 pub mod Scenario
 pub mod Site
-pub mod Limits
 pub mod Laws

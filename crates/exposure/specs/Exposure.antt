@@ -1,0 +1,48 @@
+-- What a scenario exposes a child of one age to.
+-- Assumes nothing.
+use Prim.Native.Nat.{ℕ, _+_}
+use mathlib.Core.List.{List, [], _∷_}
+use Rattle.site.specs.declared.DustSource.{DustSource}
+use Rattle.site.specs.declared.WaterSource.{WaterSource}
+use Rattle.site.specs.declared.Scenario.{Scenario}
+use Rattle.site.specs.Fields.{byAge, single, firstDrawShareIn, fountainShareIn, saturationIn}
+use Rattle.exposure.specs.declared.Exposure.{Exposure}
+
+-- the percentages of the five eaten media, diet, water, dust, soil, alternate: five single fields from k
+abbrev pub percentagesFrom : List ℕ → ℕ → List ℕ
+percentagesFrom fields k = single fields k ∷ single fields (k + 1) ∷ single fields (k + 2) ∷ single fields (k + 3) ∷ single fields (k + 4) ∷ []
+
+-- the exposure of an age from 0 to 6, from fields and sources
+abbrev pub exposureFrom : List ℕ → DustSource → WaterSource → ℕ → Exposure
+exposureFrom fields dustSource waterSource age =
+    record {
+      air = byAge fields 0 age;
+      «hours_out» = byAge fields 1 age;
+      breathing = byAge fields 2 age;
+      «air_absorption» = byAge fields 3 age;
+      diet = byAge fields 4 age;
+      water = byAge fields 5 age;
+      soil = byAge fields 6 age;
+      dust = byAge fields 7 age;
+      eaten = byAge fields 8 age;
+      alternate = byAge fields 9 age;
+      indoor = single fields 0;
+      «weight_soil» = single fields 1;
+      contribution = single fields 2;
+      «air_to_dust» = single fields 3;
+      «dust_source» = dustSource;
+      «water_source» = waterSource;
+      constant = single fields 6;
+      flushed = single fields 7;
+      «first_draw» = single fields 8;
+      fountain = single fields 9;
+      «first_draw_share» = firstDrawShareIn fields;
+      «fountain_share» = fountainShareIn fields;
+      absorbed = percentagesFrom fields 12;
+      passive = percentagesFrom fields 17;
+      saturation = saturationIn fields;
+    }
+
+-- the exposure of an age from 0 to 6
+unfoldable pub exposureAt : Scenario → ℕ → Exposure
+exposureAt s age = exposureFrom (s .fields) (s .«dust_source») (s .«water_source») age

@@ -1,0 +1,3 @@
+pub mod Exposure
+pub mod Limits
+pub mod Laws
