@@ -1,5 +1,4 @@
-pub mod Accepted
-pub mod Answers
 pub mod Decode
+pub mod ReadAnswers
 pub mod ReadBack
-pub mod Tests
+pub mod RowsWithin

@@ -9,24 +9,25 @@ use lib.ListN.{length, getD, drop, length-drop}
 use lib.Seq.{length-take-le, getD-take, getD-drop, ext-getD}
 use Rattle.numbers.proofs.Every.{every-of, length-tab}
 use Rattle.numbers.proofs.Lists.{getD-below}
+use Rattle.numbers.specs.Choice.{unless}
 use Rattle.block.specs.Block.{blockRefusal, fieldsOf, blockAt}
 use Rattle.block.specs.Writer.{sealed, bodyOf}
 use Rattle.block.proofs.Laid.{body-passes, fields-body}
 use Rattle.block.proofs.Sealed.{fields-sealed, sealed-passes, written-sealed}
-use Rattle.book.specs.Row.{rowOf, rowFits, rowsFit}
-use Rattle.book.specs.Book.{blockNumbers, bookBlockRefusal, numbersOf}
+use Rattle.row.specs.Row.{rowsABlock, lastMonth, rowOf, rowFits, rowsFit}
+use Rattle.book.specs.Book.{bookBlocks, numbersABlock, tableNumbers, bookForm, blockNumbers, bookBlockRefusal, bookNumber, numbersOf}
 use Rattle.book.specs.Laws.{BlockReads, BodyReadBack, NumbersReadBack, blockPart, BookReadBack}
-use Rattle.book.proofs.Accepted.{whole-book, number-read, accepted-numbers}
-use Rattle.book.proofs.Decode.{numberAt, rows-in-block}
-use Rattle.book.proofs.Tests.{monthFits}
+use Rattle.book.proofs.RowsWithin.{whole-book, number-read, accepted-numbers}
+use Rattle.book.proofs.Decode.{rows-in-block}
+use Rattle.row.proofs.Tests.{monthFits}
 
 pub body-read-back : BodyReadBack
-unfolding bookBlockRefusal
+unfolding bookBlockRefusal unless
 body-read-back book body target n below room here passes fit =
     let block : blockAt book n ≡ sealed body = here ∙ written-sealed body target (passes .long) room in
-    let same : blockNumbers (blockAt book n) ≡ blockNumbers body = ap blockNumbers block ∙ fields-sealed body (passes .long) 115 (omega arith) in
-    let header : blockRefusal (blockAt book n) n 1 464 ≡ 0 =
-    ap (λ (b : List ℕ). blockRefusal b n 1 464) block ∙ sealed-passes body (passes .long) n 1 464 passes in
+    let same : blockNumbers (blockAt book n) ≡ blockNumbers body = ap blockNumbers block ∙ fields-sealed body (passes .long) numbersABlock (omega arith) in
+    let header : blockRefusal (blockAt book n) (bookForm n) ≡ 0 =
+    ap (λ (b : List ℕ). blockRefusal b (bookForm n)) block ∙ sealed-passes body (passes .long) (bookForm n) passes in
     record {
       refusal = rw (header, ap (λ (l : List ℕ). rowsFit l 0) same ∙ fit);
       read = λ j h. number-read book n j below h ∙ ap (λ (l : List ℕ). getD l j 0) same;
@@ -35,50 +36,49 @@ body-read-back book body target n below room here passes fit =
 pub numbers-read-back : NumbersReadBack
 numbers-read-back book numbers target n below room here long small fit =
     let few : length numbers ≤ 126 = omega arith in
-    let same : blockNumbers (bodyOf n 1 numbers) ≡ numbers =
-    ap (λ (k : ℕ). fieldsOf k (bodyOf n 1 numbers)) (sym long) ∙ fields-body n 1 numbers few small in
-    let used : 4 + 4 * length numbers ≡ 464 = omega arith in
+    let same : blockNumbers (bodyOf (bookForm n) numbers) ≡ numbers =
+    ap (λ (k : ℕ). fieldsOf k (bodyOf (bookForm n) numbers)) (sym long) ∙ fields-body (bookForm n) numbers few small in
     rw same at
-    (body-read-back book (bodyOf n 1 numbers) target n below room here (rw used at (body-passes n 1 numbers few (omega arith) (omega arith)))
+    (body-read-back book (bodyOf (bookForm n) numbers) target n below room here (body-passes (bookForm n) numbers few (omega arith) (omega arith) (omega arith))
     (ap (λ (l : List ℕ). rowsFit l 0) same ∙ fit))
 
 -- the 115 numbers of a block, of all numbers of a book
-module _ (numbers : List ℕ) (long : length numbers ≡ 1955) (n : ℕ) (below : n < 17) where
-  length-part : length (blockPart numbers n) ≡ 115
-  length-part = length-take-le 115 (drop (115 * n) numbers) (omega (arith, length-drop (115 * n) numbers))
+module _ (numbers : List ℕ) (long : length numbers ≡ tableNumbers) (n : ℕ) (below : n < bookBlocks) where
+  length-part : length (blockPart numbers n) ≡ numbersABlock
+  length-part = length-take-le numbersABlock (drop (numbersABlock * n) numbers) (omega (arith, length-drop (numbersABlock * n) numbers))
 
-  number-of-part : (j : ℕ) → j < 115 → getD (blockPart numbers n) j 0 ≡ getD numbers (115 * n + j) 0
-  number-of-part j h = getD-take 115 (drop (115 * n) numbers) j 0 h ∙ getD-drop (115 * n) numbers j 0
+  number-of-part : (j : ℕ) → j < numbersABlock → getD (blockPart numbers n) j 0 ≡ getD numbers (numbersABlock * n + j) 0
+  number-of-part j h = getD-take numbersABlock (drop (numbersABlock * n) numbers) j 0 h ∙ getD-drop (numbersABlock * n) numbers j 0
 
   part-small : ((k : ℕ) → getD numbers k 0 < 4_294_967_296) → (k : ℕ) → getD (blockPart numbers n) k 0 < 4_294_967_296
   part-small small =
       getD-below 4_294_967_296 (omega arith) (blockPart numbers n)
-      (λ k h. rw (number-of-part k (omega (arith, length-part))) (small (115 * n + k)))
+      (λ k h. rw (number-of-part k (omega (arith, length-part))) (small (numbersABlock * n + k)))
 
-  part-fits : ((month : ℕ) → month ≤ 84 → rowFits (rowOf numbers month) ≡ true) → rowsFit (blockPart numbers n) 0 ≡ true
+  part-fits : ((month : ℕ) → month ≤ lastMonth → rowFits (rowOf numbers month) ≡ true) → rowsFit (blockPart numbers n) 0 ≡ true
   unfolding rowsFit
   part-fits fit =
       sym (rows-in-block n numbers (blockPart numbers n) (λ j h. sym (number-of-part j h)))
-      ∙ every-of (monthFits numbers) (5 * n) 5 (λ month a b. fit month (omega arith))
+      ∙ every-of (monthFits numbers) (rowsABlock * n) rowsABlock (λ month a b. fit month (omega arith))
 
 -- a book whose blocks read as these numbers has them, in all blocks together
-numbers-read : (book numbers : List ℕ) → length numbers ≡ 1955 → ((n : ℕ) → n < 17 → BlockReads book n (blockPart numbers n)) → numbersOf book ≡ numbers
+numbers-read : (book numbers : List ℕ) → length numbers ≡ tableNumbers → ((n : ℕ) → n < bookBlocks → BlockReads book n (blockPart numbers n)) → numbersOf book ≡ numbers
 unfolding numbersOf
 numbers-read book numbers long reads =
-    ext-getD 0 (numbersOf book) numbers (length-tab 1955 (numberAt book) ∙ sym long)
+    ext-getD 0 (numbersOf book) numbers (length-tab tableNumbers (bookNumber book) ∙ sym long)
     (λ k h.
-    let n = k / 115 in
-    let here : k < 1955 = omega (arith, length-tab 1955 (numberAt book)) in
-    let below : k / 115 < 17 = omega arith in
-    let split : k ≡ 115 * (k / 115) + k % 115 = omega arith in
+    let n = k / numbersABlock in
+    let here : k < tableNumbers = omega (arith, length-tab tableNumbers (bookNumber book)) in
+    let below : k / numbersABlock < bookBlocks = omega arith in
+    let split : k ≡ numbersABlock * (k / numbersABlock) + k % numbersABlock = omega arith in
     ap (λ (i : ℕ). getD (numbersOf book) i 0) split
-    ∙ reads n below .read (k % 115) (omega arith)
-    ∙ number-of-part numbers long n below (k % 115) (omega arith)
+    ∙ reads n below .read (k % numbersABlock) (omega arith)
+    ∙ number-of-part numbers long n below (k % numbersABlock) (omega arith)
     ∙ ap (λ (i : ℕ). getD numbers i 0) (sym split))
 
 pub book-read-back : BookReadBack
 book-read-back book numbers targets long-book long small fit room here =
-    let reads : (n : ℕ) → n < 17 → BlockReads book n (blockPart numbers n) =
+    let reads : (n : ℕ) → n < bookBlocks → BlockReads book n (blockPart numbers n) =
     λ n below.
     numbers-read-back book (blockPart numbers n) (targets n) n below (room n below) (here n below) (length-part numbers long n below) (part-small numbers long n below small)
     (part-fits numbers long n below fit) in

@@ -4,18 +4,37 @@ use Prim.Native.Nat.{ℕ, zero, suc, _+_, _*_, _/_, _%_}
 use mathlib.Core.List.{List, [], _∷_}
 use lib.ListN.{length, replicate}
 use lib.Dec.{eqb}
-use Rattle.numbers.specs.Choice.{unless, orElse, firstOf, tab}
-use Rattle.block.specs.Block.{fieldAt, fieldsAt, blockRefusal, fieldsOf, blockAt}
-use Rattle.book.specs.Row.{rowsFit}
+use Rattle.numbers.specs.Choice.{unless, orElse, firstOf, answerBy, tab}
+use Rattle.block.specs.declared.Form.{Form}
+use Rattle.block.specs.Block.{blockBytes, fieldAt, fieldsAt, usedBy, blockRefusal, fieldsOf, blockAt}
+use Rattle.row.specs.Row.{numbersARow, rowsABlock, rowsFit}
 
--- a block of the book has five rows of 23 fields, in bytes 4 to 463
+-- blocks and bytes of a book, numbers of a block and of a book
+abbrev pub bookBlocks : ℕ
+bookBlocks = 17
+
+abbrev pub bookBytes : ℕ
+bookBytes = bookBlocks * blockBytes
+
+abbrev pub numbersABlock : ℕ
+numbersABlock = rowsABlock * numbersARow
+
+abbrev pub tableNumbers : ℕ
+tableNumbers = bookBlocks * numbersABlock
+
+-- block n of the book is of edition 1, its five rows of 23 fields in bytes 4 to 463
+abbrev pub bookForm : ℕ → Form
+bookForm n = record { number = n; edition = 1; used = usedBy numbersABlock }
+
 abbrev pub blockNumbers : List ℕ → List ℕ
-blockNumbers block = fieldsOf 115 block
+blockNumbers block = fieldsOf numbersABlock block
 
 -- why block n is refused
+abbrev pub bookBlockRefusals : List ℕ → ℕ → List ℕ
+bookBlockRefusals block n = blockRefusal block (bookForm n) ∷ unless (rowsFit (blockNumbers block) 0) 8 ∷ []
+
 unfoldable pub bookBlockRefusal : List ℕ → ℕ → ℕ
-bookBlockRefusal block n =
-    firstOf (blockRefusal block n 1 464 ∷ unless (rowsFit (blockNumbers block) 0) 8 ∷ [])
+bookBlockRefusal block n = firstOf (bookBlockRefusals block n)
 
 -- each block in turn, k blocks from block n
 unfoldable pub blocksRefusal : List ℕ → ℕ → ℕ → ℕ
@@ -23,21 +42,23 @@ blocksRefusal book n zero = 0
 blocksRefusal book n (suc k) = orElse (bookBlockRefusal (blockAt book n) n) (blocksRefusal book (suc n) k)
 
 -- why a book is refused
+abbrev pub bookRefusals : List ℕ → List ℕ
+bookRefusals book = unless (eqb (length book) bookBytes) 1 ∷ blocksRefusal book 0 bookBlocks ∷ []
+
 unfoldable pub bookRefusal : List ℕ → ℕ
-bookRefusal book = firstOf (unless (eqb (length book) 8704) 1 ∷ blocksRefusal book 0 17 ∷ [])
+bookRefusal book = firstOf (bookRefusals book)
 
--- the book's 85 rows of 23 numbers: number j stands in block j / 115, at its place j % 115
+-- number j of a book stands in block j / 115, at its place j % 115; the book's 85 rows of 23 numbers
+abbrev pub bookNumber : List ℕ → ℕ → ℕ
+bookNumber book j = fieldAt (blockAt book (j / numbersABlock)) (fieldsAt + 4 * (j % numbersABlock))
+
 unfoldable pub numbersOf : List ℕ → List ℕ
-numbersOf book = tab 1955 (λ (j : ℕ). fieldAt (blockAt book (j / 115)) (fieldsAt + 4 * (j % 115)))
+numbersOf book = tab tableNumbers (bookNumber book)
 
--- what the table holds beside a refusal
+-- the table beside a refusal
 unfoldable pub blankTable : List ℕ
-blankTable = replicate 1955 0
-
-abbrev pub tableBeside : ℕ → List ℕ → List ℕ
-tableBeside zero book = numbersOf book
-tableBeside (suc r) book = blankTable
+blankTable = replicate tableNumbers 0
 
 -- the table that reading a book leaves
 unfoldable pub bookTable : List ℕ → List ℕ
-bookTable book = tableBeside (bookRefusal book) book
+bookTable book = answerBy (bookRefusal book) (numbersOf book) (λ r. blankTable)

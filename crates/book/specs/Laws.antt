@@ -5,46 +5,46 @@ use mathlib.Core.Bool.{true}
 use mathlib.Core.List.{List}
 use Prim.Native.Nat.{ℕ, _+_, _*_, _≤_, _<_}
 use lib.ListN.{length, getD, take, drop}
-use Rattle.block.specs.Block.{fieldAt, checkAt, checkOf, blockAt}
+use Rattle.block.specs.Block.{blockBytes, fieldAt, checkAt, checkOf, blockAt}
 use Rattle.block.specs.Writer.{written, bodyOf, BodyPasses}
-use Rattle.book.specs.Row.{rowOf, rowFits, rowsFit}
-use Rattle.book.specs.Limits.{RowLimits}
-use Rattle.book.specs.Book.{blockNumbers, bookBlockRefusal, numbersOf, bookRefusal, bookTable}
+use Rattle.row.specs.Row.{lastMonth, rowOf, rowFits, rowsFit}
+use Rattle.row.specs.Limits.{RowLimits}
+use Rattle.book.specs.Book.{bookBlocks, bookBytes, numbersABlock, tableNumbers, bookForm, blockNumbers, bookBlockRefusal, numbersOf, bookRefusal, bookTable}
 
 -- each row of an accepted book is within its limits
 abbrev pub RowsWithin : Type 0
-RowsWithin = (book : List ℕ) → bookRefusal book ≡ 0 → (month : ℕ) → month ≤ 84 → RowLimits (rowOf (bookTable book) month)
+RowsWithin = (book : List ℕ) → bookRefusal book ≡ 0 → (month : ℕ) → month ≤ lastMonth → RowLimits (rowOf (bookTable book) month)
 
 -- only blocks with the right check are accepted
 abbrev pub RightChecks : Type 0
 RightChecks =
-    (book : List ℕ) → bookRefusal book ≡ 0 → (n : ℕ) → n < 17 → fieldAt (blockAt book n) checkAt ≡ checkOf (blockAt book n)
+    (book : List ℕ) → bookRefusal book ≡ 0 → (n : ℕ) → n < bookBlocks → fieldAt (blockAt book n) checkAt ≡ checkOf (blockAt book n)
 
 -- block n of a book is read as these 115 numbers
 pub record BlockReads (book : List ℕ) (n : ℕ) (numbers : List ℕ) : Type 0 where
   pub refusal : bookBlockRefusal (blockAt book n) n ≡ 0
-  pub read : (j : ℕ) → j < 115 → getD (numbersOf book) (115 * n + j) 0 ≡ getD numbers j 0
+  pub read : (j : ℕ) → j < numbersABlock → getD (numbersOf book) (numbersABlock * n + j) 0 ≡ getD numbers j 0
 
 -- a body that 4 to 8 let pass, written as block n of a book, is read as its numbers
 abbrev pub BodyReadBack : Type 0
 BodyReadBack =
-    (book body target : List ℕ) (n : ℕ) → n < 17 → length target ≡ 512 → blockAt book n ≡ written body target
-    → BodyPasses body n 1 464 → rowsFit (blockNumbers body) 0 ≡ true → BlockReads book n (blockNumbers body)
+    (book body target : List ℕ) (n : ℕ) → n < bookBlocks → length target ≡ blockBytes → blockAt book n ≡ written body target
+    → BodyPasses body (bookForm n) → rowsFit (blockNumbers body) 0 ≡ true → BlockReads book n (blockNumbers body)
 
 -- 115 numbers of 32 bits whose rows are within their limits, laid out, written as block n of a book and read, are these numbers
 abbrev pub NumbersReadBack : Type 0
 NumbersReadBack =
-    (book numbers target : List ℕ) (n : ℕ) → n < 17 → length target ≡ 512 → blockAt book n ≡ written (bodyOf n 1 numbers) target
-    → length numbers ≡ 115 → ((k : ℕ) → getD numbers k 0 < 4_294_967_296) → rowsFit numbers 0 ≡ true → BlockReads book n numbers
+    (book numbers target : List ℕ) (n : ℕ) → n < bookBlocks → length target ≡ blockBytes → blockAt book n ≡ written (bodyOf (bookForm n) numbers) target
+    → length numbers ≡ numbersABlock → ((k : ℕ) → getD numbers k 0 < 4_294_967_296) → rowsFit numbers 0 ≡ true → BlockReads book n numbers
 
 -- a book of which no block is refused is accepted
 abbrev pub WholeBook : Type 0
 WholeBook =
-    (book : List ℕ) → length book ≡ 8704 → ((n : ℕ) → n < 17 → bookBlockRefusal (blockAt book n) n ≡ 0) → bookRefusal book ≡ 0
+    (book : List ℕ) → length book ≡ bookBytes → ((n : ℕ) → n < bookBlocks → bookBlockRefusal (blockAt book n) n ≡ 0) → bookRefusal book ≡ 0
 
 -- the 115 of a book's numbers that stand in block n
 abbrev pub blockPart : List ℕ → ℕ → List ℕ
-blockPart numbers n = take 115 (drop (115 * n) numbers)
+blockPart numbers n = take numbersABlock (drop (numbersABlock * n) numbers)
 
 -- a book is accepted and read as these numbers
 pub record BookReads (book numbers : List ℕ) : Type 0 where
@@ -54,6 +54,6 @@ pub record BookReads (book numbers : List ℕ) : Type 0 where
 -- 85 rows of 23 numbers of 32 bits, each row within its limits, laid out, written as the 17 blocks of a book and read, are these numbers
 abbrev pub BookReadBack : Type 0
 BookReadBack =
-    (book numbers : List ℕ) (targets : ℕ → List ℕ) → length book ≡ 8704 → length numbers ≡ 1955 → ((k : ℕ) → getD numbers k 0 < 4_294_967_296)
-    → ((month : ℕ) → month ≤ 84 → rowFits (rowOf numbers month) ≡ true) → ((n : ℕ) → n < 17 → length (targets n) ≡ 512)
-    → ((n : ℕ) → n < 17 → blockAt book n ≡ written (bodyOf n 1 (blockPart numbers n)) (targets n)) → BookReads book numbers
+    (book numbers : List ℕ) (targets : ℕ → List ℕ) → length book ≡ bookBytes → length numbers ≡ tableNumbers → ((k : ℕ) → getD numbers k 0 < 4_294_967_296)
+    → ((month : ℕ) → month ≤ lastMonth → rowFits (rowOf numbers month) ≡ true) → ((n : ℕ) → n < bookBlocks → length (targets n) ≡ blockBytes)
+    → ((n : ℕ) → n < bookBlocks → blockAt book n ≡ written (bodyOf (bookForm n) (blockPart numbers n)) (targets n)) → BookReads book numbers

@@ -1,5 +1,3 @@
-pub mod Row
 pub mod Book
-pub mod Limits
 pub mod Laws
-pub mod Ready
+pub mod Contracts

@@ -10,7 +10,7 @@ use lib.Dec.{leb}
 use Rattle.numbers.specs.Choice.{every}
 use Rattle.numbers.proofs.Lists.{each-getD}
 use Rattle.site.specs.declared.Scenario.{Scenario}
-use Rattle.site.specs.Fields.{ages, singlesAt, fieldCount, at, limits, single, fieldsFit}
+use Rattle.site.specs.Fields.{ages, singlesAt, at, limits, single, fieldsFit}
 use Rattle.site.specs.Site.{readSite}
 use Rattle.site.proofs.FieldsWithin.{field-le, range-le, saturation-ge, shares-le, accepted-fit}
 use Rattle.exposure.specs.Exposure.{percentagesFrom, exposureAt}

@@ -2,23 +2,21 @@
 -- Assumes nothing.
 use mathlib.Core.Path.{_≡_, refl, ap, _∙_}
 use mathlib.Core.Bool.{true, _&&_}
-use mathlib.Core.List.{List, [], _∷_}
-use Prim.Native.Nat.{ℕ, zero, suc, _+_, _≤_, _<_}
+use mathlib.Core.List.{List}
+use Prim.Native.Nat.{ℕ, _+_, _≤_, _<_}
 use native.Mathlib.Nat.{le-trans}
 use native.Mathlib.Omega.{arith}
-use lib.ListN.{length, getD}
-use lib.Dec.{eqb, leb}
+use lib.ListN.{getD}
+use lib.Dec.{leb}
 use borrow.Author.Tests.{leb-true}
-use Rattle.numbers.specs.Choice.{unless, every}
+use Rattle.numbers.specs.Choice.{every}
 use Rattle.numbers.proofs.Every.{and-left, and-right, every-at}
-use Rattle.numbers.proofs.Lists.{each-getD}
 use Rattle.numbers.proofs.Refusals.{firstOf-none, unless-none, answer-number, OfInput, unless-of-input, firstOf-of-input}
-use Rattle.block.specs.Block.{blockRefusal}
 use Rattle.block.proofs.Laws.{block-of-input}
 use Rattle.block.proofs.Sealed.{accepted-check}
 use Rattle.site.specs.declared.Scenario.{Scenario}
 use Rattle.site.specs.declared.SiteRead.{SiteRead}
-use Rattle.site.specs.Fields.{fieldCount, singlesAt, at, limits, single, firstDrawShareIn, fountainShareIn, saturationIn, withinLimits, saturationFits, sharesFit, fieldsFit}
+use Rattle.site.specs.Fields.{fieldCount, singlesAt, at, limits, firstDrawShareIn, fountainShareIn, saturationIn, withinLimits, saturationFits, sharesFit, fieldsFit}
 use Rattle.site.specs.Scenario.{scenarioOf}
 use Rattle.site.specs.Site.{siteForm, siteFields, siteRefusals, siteRefusal, readAs, refusedWith, readSite}
 use Rattle.site.specs.Laws.{MotherWithin, RightCheck}

@@ -1,10 +1,14 @@
 -- `book::decode_block` meets its contract: refused by its header, or its numbers placed and its rows tested.
 -- Assumes nothing.
-use mathlib.Core.Path.{_≡_, sym, _∙_}
+use mathlib.Core.Path.{_≡_, sym, ap, _∙_}
+use Prim.Native.Nat.{_+_, _-_, _*_}
+use lib.ListN.{take, drop}
 use mathlib.Core.Bool.{Bool}
 use denote.Ref.{now}
 use Rattle.numbers.specs.Choice.{unless}
-use Rattle.book.specs.Ready.{BlockDecoded}
+use Rattle.block.specs.Block.{blockBytes, blockRefusal}
+use Rattle.book.specs.Book.{bookForm}
+use Rattle.book.specs.Contracts.{BlockDecoded}
 use Rattle.book.proofs.Decode.{stored, refused-by-header, checked-rows}
 use borrow.Author.Needs.{needs}
 use Rattle.book.proofs.decode_block.Statement.{statement}
@@ -25,17 +29,26 @@ part-block-start c = search needs
 part-block-end : tie.Need-part-block-end
 part-block-end c = search needs
 
-cast-block-refusal : tie.Need-cast-block-refusal
-cast-block-refusal c = search needs
+cast-book-form : tie.Need-cast-book-form
+cast-book-form c = search needs
+
+book-form-requires : tie.Need-book-form-requires
+book-form-requires c κs = search needs
 
 block-refusal-requires : tie.Need-block-refusal-requires
 block-refusal-requires c κs = search needs
 
+-- the header is held to the form that the code made
+header : (c : tie.After-block-refusal) →
+    let a = c .before .before .before .before .before .args in
+    c .block-refusal .result ≡ blockRefusal (take (blockBytes * a .n + blockBytes - blockBytes * a .n) (drop (blockBytes * a .n) (now (a .book)))) (bookForm (a .n))
+header c = c .block-refusal .ensures ∙ ap (blockRefusal _) (c .before .book-form .ensures)
+
 returns : tie.Need-returns
 returns c =
-    let start = c .before .before .before .before .before in
+    let start = c .before .before .before .before .before .before in
     refused-by-header (now (start .args .book)) (start .args .n) (now (start .args .table)) (start .pre .1 .0)
-    (c .before .block-refusal .result) (c .before .block-refusal .ensures) (c .if1 .taken)
+    (c .before .block-refusal .result) (header (c .before)) (c .if1 .taken)
 
 mul-first : tie.Need-mul-first
 mul-first c = search needs
@@ -67,25 +80,27 @@ rows-fit-requires c κs = search needs
 -- the numbers stored, by what the test of their rows answered
 rows-tested : {fit : Bool} (c : tie.After-rows-fit) → c .rows-fit .result ≡ fit →
     let read = c .before .before .before .before in
-    let a = read .before .before .before .before .before .before .before .args in
+    let a = read .before .before .before .before .before .before .before .before .args in
     BlockDecoded (now (a .book)) (a .n) (now (a .table)) (stored (a .n) (read .read-fields .last .1 .0) (now (a .table))) (unless fit 8)
 rows-tested c answered =
     let read = c .before .before .before .before in
-    let header = read .before .before .before in
-    let start = header .before .before .before .before in
-    checked-rows _ (start .args .n) _ (start .pre .1 .0) (start .pre .1 .1) (sym (header .block-refusal .ensures) ∙ read .before .before .if1 .left) _
+    let tested = read .before .before .before in
+    let start = tested .before .before .before .before .before in
+    checked-rows _ (start .args .n) _ (start .pre .1 .0) (start .pre .1 .1) (sym (header tested) ∙ read .before .before .if1 .left) _
     (read .read-fields .ensures) (sym (c .rows-fit .ensures) ∙ answered)
 
 same-length : tie.Need-same-length
 same-length c = search needs
 
 returns-2 : tie.Need-returns-2
+unfolding unless
 returns-2 c = rows-tested (c .before) (c .if2 .taken)
 
 same-length-2 : tie.Need-same-length-2
 same-length-2 c = search needs
 
 returns-3 : tie.Need-returns-3
+unfolding unless
 returns-3 c = rows-tested (c .before) (c .if2 .left)
 
 pub decode-block-spec : {M : Type 1} → statement M
@@ -97,7 +112,8 @@ decode-block-spec =
     sub-block
     part-block-start
     part-block-end
-    cast-block-refusal
+    cast-book-form
+    book-form-requires
     block-refusal-requires
     returns
     mul-first

@@ -3,6 +3,7 @@
 use Prim.Native.Nat.{_-_}
 use mathlib.Core.Path.{sym, _∙_}
 use borrow.Author.Needs.{needs}
+use Rattle.book.specs.Book.{bookBlocks}
 use Rattle.book.proofs.Decode.{AtBlock, at-first, at-refused, at-next, at-end}
 use Rattle.book.proofs.decode_blocks.Statement.{statement}
 use Rattle.book.proofs.decode_blocks.Tie as tie
@@ -11,7 +12,7 @@ abbrev Inv-loop : tie.InvT-loop
 Inv-loop book table₀ n₀ table n = AtBlock book table n
 
 abbrev μ-loop : tie.MeasureT-loop
-μ-loop book table₀ n₀ table n = 17 - n
+μ-loop book table₀ n₀ table n = bookBlocks - n
 
 loop-holds : tie.Need-loop-holds Inv-loop μ-loop
 loop-holds c = at-first _ _ (c .before .before .pre .1)

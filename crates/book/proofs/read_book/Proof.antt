@@ -4,12 +4,13 @@ use mathlib.Core.Path.{_≡_}
 use lib.ListN.{length}
 use borrow.Author.Needs.{needs}
 use denote.Ref.{now}
-use Rattle.book.proofs.Answers.{refused-length, refused-block, accepted-book}
+use Rattle.book.specs.Book.{tableNumbers}
+use Rattle.book.proofs.ReadAnswers.{refused-length, refused-block, accepted-book}
 use Rattle.book.proofs.read_book.Statement.{statement}
 use Rattle.book.proofs.read_book.Tie as tie
 
 -- the table's length is its type's
-full : (c : tie.After-blank-arg) → length (now (c .before .before .before .args .table)) ≡ 1955
+full : (c : tie.After-blank-arg) → length (now (c .before .before .before .args .table)) ≡ tableNumbers
 full c = search needs
 
 blank-requires : tie.Need-blank-requires

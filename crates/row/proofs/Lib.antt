@@ -1,0 +1,2 @@
+pub mod RowWithin
+pub mod Tests
