@@ -1,0 +1,85 @@
+-- Refusal 9 by its tests, what it lets pass, and that it is from the input.
+-- Assumes nothing.
+use mathlib.Core.Path.{_≡_, refl, sym}
+use mathlib.Core.Bool.{Bool, true, false}
+use mathlib.Core.List.{List, [], _∷_}
+use Prim.Native.Nat.{ℕ, _≤_, _<_}
+use native.Mathlib.Omega.{arith}
+use lib.ListN.{drop}
+use borrow.Author.Tests.{le-leb, leb-true}
+use Rattle.numbers.specs.Choice.{unless}
+use Rattle.numbers.proofs.Every.{allOf, and-true, and-both}
+use Rattle.numbers.proofs.Lists.{each-getD}
+use Rattle.numbers.proofs.Refusals.{unless-none, OfInput, unless-of-input}
+use Rattle.site.specs.Fields.{at}
+use Rattle.exposure.specs.declared.Exposure.{Exposure}
+use Rattle.exposure.specs.Limits.{ExposureLimits}
+use Rattle.intake.specs.declared.Intakes.{Intakes}
+use Rattle.intake.specs.Intake.{airIntake, waterMedium, dustMedium, soilMedium, intakesOf, intakeOf, passes, refusalOf, intakeRefusal}
+use Rattle.intake.specs.Laws.{Passed, RefusalLaw}
+
+-- the tests of the intakes, in their order, and those that are left after the first k
+abbrev pub intakeTests : Intakes → List Bool
+intakeTests i =
+    passes (i .air) ∷ passes (at (i .media) waterMedium) ∷ passes (at (i .media) soilMedium) ∷ passes (at (i .media) dustMedium) ∷ []
+
+abbrev pub TestsLeft : ℕ → Intakes → Type 0
+TestsLeft k i = allOf (drop k (intakeTests i)) ≡ allOf (intakeTests i)
+
+-- they decide the refusal
+pub refusal-by-tests : (i : Intakes) {t : Bool} → t ≡ allOf (intakeTests i) → unless t 9 ≡ refusalOf i
+unfolding refusalOf
+refusal-by-tests i e = rw e
+
+-- what 9 tests of an exposure
+allPass : Exposure → Bool
+allPass e = allOf (intakeTests (intakesOf e))
+
+refusal-is : (e : Exposure) → intakeRefusal e ≡ unless (allPass e) 9
+unfolding intakeRefusal allPass
+refusal-is e = sym (refusal-by-tests (intakesOf e) refl)
+
+passed-of : (e : Exposure) → allPass e ≡ true → Passed e
+unfolding allPass intakesOf
+passed-of e t =
+    let air = and-both _ _ t in
+    let water = and-both _ _ (air .1) in
+    let soil = and-both _ _ (water .1) in
+    record { air = leb-true _ _ (air .0); water = leb-true _ _ (water .0); soil = leb-true _ _ (soil .0); dust = leb-true _ _ (soil .1) }
+
+all-of : (e : Exposure) → Passed e → allPass e ≡ true
+unfolding allPass intakesOf
+all-of e p =
+    and-true _ _ (le-leb _ _ (p .air))
+    (and-true _ _ (le-leb _ _ (p .water)) (and-true _ _ (le-leb _ _ (p .soil)) (le-leb _ _ (p .dust))))
+
+-- a test that does not hold is answered with 9
+nine-of : (t : Bool) → (t ≡ true → ⊥) → unless t 9 ≡ 9
+unfolding unless
+nine-of true h = absurd (h refl)
+nine-of false h = refl
+
+pub refusal-law : (e : Exposure) → RefusalLaw e
+unfolding unless
+refusal-law e =
+    record {
+      passes = λ p. rw (refusal-is e, all-of e p);
+      passed = λ z. passed-of e (unless-none (allPass e) 9 (omega arith) (rw (refusal-is e) at z));
+      nine = λ h. rw (refusal-is e) (nine-of (allPass e) (λ t. h (passed-of e t)));
+    }
+
+pub intake-of-input : (e : Exposure) → OfInput (intakeRefusal e)
+unfolding intakeRefusal refusalOf
+intake-of-input e = unless-of-input _ 9 (omega arith)
+
+-- the intakes of an exposure that 9 does not refuse
+module _ {e : Exposure} (lim : ExposureLimits e) (passed : intakeRefusal e ≡ 0) where
+  pub air-most : airIntake e ≤ 1_000_000_000
+  air-most = refusal-law e .passed passed .air
+
+  pub intake-most : (medium : ℕ) → medium < 5 → intakeOf e medium ≤ 1_000_000_000
+  unfolding intakesOf
+  intake-most medium l =
+      let within = refusal-law e .passed passed in
+      each-getD (λ x. x ≤ 1_000_000_000) (omega arith) (intakesOf e .media)
+      (lim .diet, (within .water, (within .dust, (within .soil, (lim .alternate, tt))))) medium
