@@ -1,31 +1,31 @@
--- What the calls give, put together: the divisors of a month's rates, and the state after a step.
+-- The divisors of a month's rates, and the state after a step, put together from what the calls answer.
 -- Assumes nothing.
 use mathlib.Core.Path.{_≡_, ap, _∙_}
 use mathlib.Core.List.{[], _∷_}
 use Prim.Native.Nat.{ℕ, _+_, _-_, _*_, _/_, _≤_}
 use native.Mathlib.Omega.{arith}
 use Rattle.numbers.specs.Sums.{sumTo}
-use Rattle.book.specs.declared.Rates.{Rates}
-use Rattle.book.specs.Row.{unit}
+use Rattle.row.specs.declared.Rates.{Rates}
+use Rattle.row.specs.Row.{unit}
 use Rattle.kinetics.specs.declared.State.{State}
-use Rattle.kinetics.specs.Ready.{Prepares}
+use Rattle.kinetics.specs.Contracts.{DivisorsOf}
 use Rattle.kinetics.specs.Step.{burden, liver, other, compartmentDivisor, retained, divisor, solvedPlasma, newAmount, urineExit, compartmentExit, exits, newPlasma, nextLead, urineLedger, faecesLedger, skinLedger, next}
 use Rattle.kinetics.proofs.Compartments.{at-six}
 use Rattle.kinetics.proofs.Balance.{never-cut-off}
 
 -- the divisors e1 to e6, and what is retained, k1 to k6
-pub prepares-is : (r : Rates) {e1 e2 e3 e4 e5 e6 k1 k2 k3 k4 k5 k6 : ℕ}
+pub divisors-are : (r : Rates) {e1 e2 e3 e4 e5 e6 k1 k2 k3 k4 k5 k6 : ℕ}
     → e1 ≡ compartmentDivisor r 0 → e2 ≡ compartmentDivisor r 1 → e3 ≡ compartmentDivisor r 2
     → e4 ≡ compartmentDivisor r 3 → e5 ≡ compartmentDivisor r 4 → e6 ≡ compartmentDivisor r 5
     → k1 ≡ retained r 0 → k2 ≡ retained r 1 → k3 ≡ retained r 2 → k4 ≡ retained r 3 → k5 ≡ retained r 4 → k6 ≡ retained r 5
-    → Prepares r
+    → DivisorsOf r
     (record {
-      divisors = e1 ∷ e2 ∷ e3 ∷ e4 ∷ e5 ∷ e6 ∷ [];
-      divisor = unit + r .urine + k2 + k3 + k4 + k5 + k6 + k1;
+      compartments = e1 ∷ e2 ∷ e3 ∷ e4 ∷ e5 ∷ e6 ∷ [];
+      plasma = unit + r .urine + k2 + k3 + k4 + k5 + k6 + k1;
     })
 unfolding divisor sumTo
-prepares-is r d1 d2 d3 d4 d5 d6 h1 h2 h3 h4 h5 h6 =
-    record { divisors = at-six _ d1 d2 d3 d4 d5 d6; whole = omega arith }
+divisors-are r d1 d2 d3 d4 d5 d6 h1 h2 h3 h4 h5 h6 =
+    record { compartments = at-six _ d1 d2 d3 d4 d5 d6; plasma = omega arith }
 
 -- what the calls of a step give: t all the lead there is, p, the new amounts m1 to m6, and the exits x, y and z
 pub record Parts (r : Rates) (s : State) (u : ℕ) : Type 0 where

@@ -7,11 +7,11 @@ use native.Mathlib.Nat.{mul-le-mul-left, mul-lt-mul-of-pos-left, div-add-mod', d
 use native.Mathlib.Omega.{arith}
 use Rattle.numbers.specs.Sums.{sumTo}
 use Rattle.numbers.proofs.Sums.{weighted, sum-add, sum-scale, weighted-add, weighted-scale, weigh-eq, weigh-below, weigh-under}
-use Rattle.book.specs.declared.Rates.{Rates}
-use Rattle.book.specs.Row.{unit, out, back, exit}
+use Rattle.row.specs.declared.Rates.{Rates}
+use Rattle.row.specs.Row.{unit, out, back, exit}
 use Rattle.kinetics.specs.Step.{plasma, amount, burden, compartmentDivisor, returned, inflow, divisor, solvedPlasma, newAmount, urineExit, compartmentExit, exits, exitSum, newPlasma, nextLead}
 use Rattle.kinetics.specs.Solution.{product, denominator, numerator}
-use Rattle.kinetics.proofs.Divisors.{lessBack, netOut, compartmentDivisor-pos, divisor-pos, product-pos, productOver-sum, denominator-rest, scale-pos, divisor-ge, divisor-le}
+use Rattle.kinetics.proofs.DivisorMargin.{lessBack, netOut, compartmentDivisor-pos, divisor-pos, product-pos, productOver-sum, denominator-rest, scale-pos, divisor-ge, divisor-le}
 
 -- what the divisions of points 2 and 3 leave
 unfoldable pub amountRemainder : Rates → List ℕ → ℕ → ℕ → ℕ

@@ -7,16 +7,16 @@ use native.Mathlib.Nat.{mul-le-mul-left, mul-le-mul-right, mul-le-mul, mul-comm,
 use native.Mathlib.Omega.{arith}
 use lib.ListN.{getD}
 use Rattle.numbers.proofs.Sums.{sum-le, sum-has}
-use Rattle.book.specs.declared.Rates.{Rates}
-use Rattle.book.specs.Row.{unit, out, back}
-use Rattle.book.specs.Limits.{RateLimits}
+use Rattle.row.specs.declared.Rates.{Rates}
+use Rattle.row.specs.Row.{unit, out, back}
+use Rattle.row.specs.Limits.{RateLimits}
 use Rattle.kinetics.specs.declared.State.{State}
-use Rattle.kinetics.specs.declared.Prepared.{Prepared}
+use Rattle.kinetics.specs.declared.Divisors.{Divisors}
 use Rattle.kinetics.specs.Step.{amount, compartmentDivisor, returned, retained, inflow, divisor, solvedPlasma, newAmount, burdenLimit}
 use Rattle.numbers.specs.Bounds.{Is}
 use Rattle.numbers.proofs.Bounds.{is}
-use Rattle.kinetics.specs.Ready.{Ready}
-use Rattle.kinetics.proofs.Divisors.{part-le, compartmentDivisor-pos, back-le, retained-eq, divisor-pos}
+use Rattle.kinetics.specs.Contracts.{Ready}
+use Rattle.kinetics.proofs.DivisorMargin.{part-le, compartmentDivisor-pos, back-le, retained-eq, divisor-pos}
 
 half-le : (a b : ℕ) {e : ℕ} → 2 * b ≤ e → 0 < e → 2 * (a * b / e) ≤ a
 half-le a b {e} h pos = le-of-mul-le-mul-right (omega (arith, div-mul-le-self (a * b) e, mul-le-mul-left a h)) pos
@@ -67,19 +67,19 @@ returned-le-amount : (r : Rates) (lead : List ℕ) (i : ℕ) → returned r lead
 unfolding returned
 returned-le-amount r lead i = rw mul-comm (part-le (amount lead i) (back-le r i) (compartmentDivisor-pos r i))
 
-module _ {r : Rates} {q : Prepared} {s : State} {u : ℕ} (ready : Ready r q s u) where
+module _ {r : Rates} {q : Divisors} {s : State} {u : ℕ} (ready : Ready r q s u) where
   pub inflow-small : inflow r (s .lead) u ≤ burdenLimit
   unfolding inflow
   inflow-small =
       omega (arith, sum-le 6 (returned r (s .lead)) (amount (s .lead)) (λ i l. returned-le-amount r (s .lead) i), ready .room)
 
   -- n is the inflow
-  pub solvedPlasma-is : {n : ℕ} → n ≡ inflow r (s .lead) u → n * unit / q .divisor ≡ solvedPlasma r (s .lead) u
+  pub solvedPlasma-is : {n : ℕ} → n ≡ inflow r (s .lead) u → n * unit / q .plasma ≡ solvedPlasma r (s .lead) u
   unfolding solvedPlasma
-  solvedPlasma-is h = ap₂ (λ (n d : ℕ). n * unit / d) h (ready .prepared .whole)
+  solvedPlasma-is h = ap₂ (λ (n d : ℕ). n * unit / d) h (ready .divisors-of .plasma)
 
-  pub prepared-divisor-pos : 0 < q .divisor
-  prepared-divisor-pos = omega (arith, ready .prepared .whole, divisor-pos r)
+  pub plasma-pos : 0 < q .plasma
+  plasma-pos = omega (arith, ready .divisors-of .plasma, divisor-pos r)
 
   solved-times-divisor : solvedPlasma r (s .lead) u * divisor r ≤ 5_000_000_000_000_000_000
   unfolding solvedPlasma
@@ -95,15 +95,15 @@ module _ {r : Rates} {q : Prepared} {s : State} {u : ℕ} (ready : Ready r q s u
     pub back-amount-fits : back r i * amount (s .lead) i ≤ 5_000_000_000_000_000_000
     back-amount-fits = mul-le-mul (back-le-unit (ready .limits) l) amount-le
 
-    pub prepared-divisors-pos : 0 < getD (q .divisors) i 0
-    prepared-divisors-pos = omega (arith, ready .prepared .divisors i l, compartmentDivisor-pos r i)
+    pub compartments-pos : 0 < getD (q .compartments) i 0
+    compartments-pos = omega (arith, ready .divisors-of .compartments i l, compartmentDivisor-pos r i)
 
     returned-small : returned r (s .lead) i ≤ burdenLimit
     returned-small = omega (arith, returned-le-amount r (s .lead) i, amount-le)
 
-    pub returned-is : Is (returned r (s .lead) i) burdenLimit (back r i * amount (s .lead) i / getD (q .divisors) i 0)
+    pub returned-is : Is (returned r (s .lead) i) burdenLimit (back r i * amount (s .lead) i / getD (q .compartments) i 0)
     unfolding returned
-    returned-is = is (ap (λ (d : ℕ). back r i * amount (s .lead) i / d) (ready .prepared .divisors i l)) returned-small
+    returned-is = is (ap (λ (d : ℕ). back r i * amount (s .lead) i / d) (ready .divisors-of .compartments i l)) returned-small
 
     pub inflow-at-fits : {p : ℕ} → p ≡ solvedPlasma r (s .lead) u → amount (s .lead) i * unit + out r i * p ≤ 15_000_000_000_000_000_000
     inflow-at-fits h =
@@ -121,10 +121,10 @@ module _ {r : Rates} {q : Prepared} {s : State} {u : ℕ} (ready : Ready r q s u
         )
 
     pub newAmount-is : {p : ℕ} → p ≡ solvedPlasma r (s .lead) u
-        → Is (newAmount r (s .lead) (solvedPlasma r (s .lead) u) i) 150_000_000_000 ((amount (s .lead) i * unit + out r i * p) / getD (q .divisors) i 0)
+        → Is (newAmount r (s .lead) (solvedPlasma r (s .lead) u) i) 150_000_000_000 ((amount (s .lead) i * unit + out r i * p) / getD (q .compartments) i 0)
     unfolding newAmount
     newAmount-is h =
-        is (ap₂ (λ (p d : ℕ). (amount (s .lead) i * unit + out r i * p) / d) h (ready .prepared .divisors i l)) newAmount-small
+        is (ap₂ (λ (p d : ℕ). (amount (s .lead) i * unit + out r i * p) / d) h (ready .divisors-of .compartments i l)) newAmount-small
 
     pub exit-fits : {n : ℕ} → n ≡ newAmount r (s .lead) (solvedPlasma r (s .lead) u) i → (c : ℕ) → 2 * c ≤ unit → c * n ≤ 7_500_000_000_000_000_000
     exit-fits e c h = rw e (omega (arith, mul-le-mul h newAmount-small))

@@ -1,11 +1,8 @@
 -- Lemmas of the crate: the laws of the step, and the numbers that fit 64 bits.
 pub mod Compartments
-pub mod Divisors
+pub mod DivisorMargin
 pub mod Balance
 pub mod Margins
 pub mod StepLaws
 pub mod Bounds
 pub mod Assembly
-pub mod DayShares
-pub mod Newborn
-pub mod Figure

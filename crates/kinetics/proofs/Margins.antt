@@ -7,12 +7,12 @@ use native.Mathlib.Nat.{le-of-lt, le-of-eq, mul-le-mul-left, mul-le-mul-right, m
 use native.Mathlib.Omega.{arith}
 use Rattle.numbers.specs.Sums.{sumTo}
 use Rattle.numbers.proofs.Sums.{weigh-above}
-use Rattle.book.specs.declared.Rates.{Rates}
-use Rattle.book.specs.Row.{unit, out}
-use Rattle.book.specs.Limits.{RateLimits}
+use Rattle.row.specs.declared.Rates.{Rates}
+use Rattle.row.specs.Row.{unit, out}
+use Rattle.row.specs.Limits.{RateLimits}
 use Rattle.kinetics.specs.Step.{plasma, amount, compartmentDivisor, solvedPlasma, newAmount, newPlasma}
 use Rattle.kinetics.specs.Solution.{product, denominator, numerator}
-use Rattle.kinetics.proofs.Divisors.{lessBack, netOut, compartmentDivisor-pos, denominator-rest, denominator-rest-le, scale-pos}
+use Rattle.kinetics.proofs.DivisorMargin.{lessBack, netOut, compartmentDivisor-pos, denominator-rest, denominator-rest-le, scale-pos}
 use Rattle.kinetics.proofs.Balance.{amountRemainder, exitRemainder, urineRemainder, netRemainder, remainders, solvedPlasma-le, solvedPlasma-ge, step-balance, newPlasma-eq}
 
 module _ (r : Rates) (lead : List ℕ) (p : ℕ) where

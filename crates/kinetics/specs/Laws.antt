@@ -1,19 +1,15 @@
--- The laws of the exact solution, a step, birth, the blood figure and a day's shares.
+-- The laws of the exact solution and of a step.
 -- Assumes nothing.
 use mathlib.Core.Path.{_≡_}
 use Prim.Native.Nat.{ℕ, _+_, _*_, _≤_, _<_}
-use mathlib.Core.List.{List, [], _∷_}
+use mathlib.Core.List.{List}
 use Rattle.numbers.specs.Sums.{sumTo}
-use Rattle.book.specs.declared.Rates.{Rates}
-use Rattle.book.specs.declared.Row.{Row}
-use Rattle.book.specs.Row.{unit, out, back}
-use Rattle.book.specs.Limits.{RateLimits, RowLimits}
+use Rattle.row.specs.declared.Rates.{Rates}
+use Rattle.row.specs.Row.{unit, out, back}
+use Rattle.row.specs.Limits.{RateLimits}
 use Rattle.kinetics.specs.declared.State.{State}
-use Rattle.kinetics.specs.Step.{plasma, amount, burden, compartmentDivisor, solvedPlasma, newAmount, exits, exitSum, nextLead, urineLedger, faecesLedger, skinLedger, next, burdenLimit}
+use Rattle.kinetics.specs.Step.{plasma, amount, burden, compartmentDivisor, solvedPlasma, newAmount, exits, exitSum, nextLead, urineLedger, faecesLedger, skinLedger, next}
 use Rattle.kinetics.specs.Solution.{product, productOver, denominator, Margin}
-use Rattle.kinetics.specs.Birth.{birthTotal, birthLead, birthState}
-use Rattle.kinetics.specs.Blood.{bloodOf}
-use Rattle.kinetics.specs.Share.{shareOf}
 
 -- the exact solution is a fraction: each F/Ei is whole, Q's subtraction is not cut off at 0, and Q is positive
 pub record SolutionLaw (r : Rates) : Type 0 where
@@ -46,26 +42,3 @@ pub record StepLaw (r : Rates) (s : State) (u : ℕ) : Type 0 where
 -- the same of any state
 abbrev pub StepLaws : Type 0
 StepLaws = (r : Rates) (s : State) (u : ℕ) → RateLimits r → StepLaw r s u
-
--- birth: plasma and red cells are the blood total, and the seven compartments together stay far below 2^64
-pub record BirthLaw (row : Row) (mother : ℕ) : Type 0 where
-  pub month : birthState row mother .month ≡ 0
-  pub lead : birthState row mother .lead ≡ birthLead row mother
-  pub ledgers : birthState row mother .ledgers ≡ 0 ∷ 0 ∷ 0 ∷ []
-  pub blood : plasma (birthLead row mother) + amount (birthLead row mother) 0 ≡ birthTotal row mother
-  pub bounded : burden (birthLead row mother) ≤ 726_325_000_000
-
-abbrev pub BirthLaws : Type 0
-BirthLaws = (row : Row) (mother : ℕ) → RowLimits row → mother ≤ 100_000 → BirthLaw row mother
-
--- the blood figure of a child that no refusal stops
-abbrev pub BloodLaw : Type 0
-BloodLaw = (row : Row) (lead : List ℕ) → RowLimits row → burden lead ≤ burdenLimit → bloodOf row lead ≤ 50_000_000
-
--- a day of any number of steps: the shares add up to T, and each is at most T
-pub record ShareLaw (s T : ℕ) : Type 0 where
-  pub total : sumTo s (shareOf s T) ≡ T
-  pub each : (k : ℕ) → k < s → shareOf s T k ≤ T
-
-abbrev pub ShareLaws : Type 0
-ShareLaws = (s T : ℕ) → 0 < s → ShareLaw s T

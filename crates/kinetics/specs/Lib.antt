@@ -1,8 +1,5 @@
--- What the crate's calls mean, in document 01's order.
-pub mod Share
+-- One step, its exact solution, and their laws, in document 01's order.
 pub mod Step
 pub mod Solution
-pub mod Birth
-pub mod Blood
 pub mod Laws
-pub mod Ready
+pub mod Contracts

@@ -3,8 +3,8 @@
 use Prim.Native.Nat.{ℕ, _+_, _-_, _*_, _/_, _≤_, _<_}
 use mathlib.Core.List.{List}
 use Rattle.numbers.specs.Sums.{sumTo, prodTo}
-use Rattle.book.specs.declared.Rates.{Rates}
-use Rattle.book.specs.Row.{unit, out, back}
+use Rattle.row.specs.declared.Rates.{Rates}
+use Rattle.row.specs.Row.{unit, out, back}
 use Rattle.kinetics.specs.Step.{plasma, amount, compartmentDivisor, nextLead}
 
 -- F, the product of the six Ei

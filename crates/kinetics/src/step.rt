@@ -1,10 +1,10 @@
 // One step of the seven compartments (B-8, B-9).
 ghost use mathlib.Core.Path.{_≡_};
 ghost use Prim.Native.Nat.{_+_, _*_, _/_, _≤_, _<_};
-ghost use Rattle.book.specs.Row.{unit};
+ghost use Rattle.row.specs.Row.{unit};
 ghost use Rattle.kinetics.specs.Step.{burden, returned, inflow, solvedPlasma, newAmount, next, burdenLimit};
 ghost use Rattle.numbers.specs.Bounds.{Is};
-ghost use Rattle.kinetics.specs.Ready.{Ready};
+ghost use Rattle.kinetics.specs.Contracts.{Ready};
 use super::COMPARTMENTS_AT;
 use super::CORTICAL;
 use super::FAECES_AT;
@@ -12,56 +12,56 @@ use super::KIDNEY;
 use super::LIVER;
 use super::OTHER;
 use super::PLASMA_AT;
-use super::Prepared;
+use super::Divisors;
 use super::RED_CELLS;
 use super::SKIN_AT;
 use super::State;
 use super::TRABECULAR;
 use super::URINE_AT;
-use book::Rates;
-use book::UNIT;
+use row::Rates;
+use row::UNIT;
 
 // Point 1: what compartment i returns to the plasma.
-fn returned_at(rates: Rates, prepared: Prepared, state: State, u: u64, i: usize) -> u64
-    requires { ⌜ (Ready rates prepared state u) × (i < 6) ⌝ }
+fn returned_at(rates: Rates, divisors: Divisors, state: State, u: u64, i: usize) -> u64
+    requires { ⌜ (Ready rates divisors state u) × (i < 6) ⌝ }
     ensures { λ n. ⌜ Is (returned rates (state .lead) i) burdenLimit n ⌝ }
 {
-    rates.back[i] * state.lead[i + COMPARTMENTS_AT] / prepared.divisors[i]
+    rates.back[i] * state.lead[i + COMPARTMENTS_AT] / divisors.compartments[i]
 }
 
 // Point 1: n.
-fn inflow_of(rates: Rates, prepared: Prepared, state: State, u: u64) -> u64
-    requires { ⌜ Ready rates prepared state u ⌝ }
+fn inflow_of(rates: Rates, divisors: Divisors, state: State, u: u64) -> u64
+    requires { ⌜ Ready rates divisors state u ⌝ }
     ensures { λ n. ⌜ Is (inflow rates (state .lead) u) burdenLimit n ⌝ }
 {
     state.lead[PLASMA_AT]
         + u
-        + returned_at(rates, prepared, state, u, RED_CELLS)
-        + returned_at(rates, prepared, state, u, LIVER)
-        + returned_at(rates, prepared, state, u, KIDNEY)
-        + returned_at(rates, prepared, state, u, OTHER)
-        + returned_at(rates, prepared, state, u, TRABECULAR)
-        + returned_at(rates, prepared, state, u, CORTICAL)
+        + returned_at(rates, divisors, state, u, RED_CELLS)
+        + returned_at(rates, divisors, state, u, LIVER)
+        + returned_at(rates, divisors, state, u, KIDNEY)
+        + returned_at(rates, divisors, state, u, OTHER)
+        + returned_at(rates, divisors, state, u, TRABECULAR)
+        + returned_at(rates, divisors, state, u, CORTICAL)
 }
 
 // Point 1: p (B-8).
-fn solved_plasma(rates: Rates, prepared: Prepared, state: State, u: u64) -> u64
-    requires { ⌜ Ready rates prepared state u ⌝ }
+fn solved_plasma(rates: Rates, divisors: Divisors, state: State, u: u64) -> u64
+    requires { ⌜ Ready rates divisors state u ⌝ }
     ensures { λ p. ⌜ p ≡ solvedPlasma rates (state .lead) u ⌝ }
 {
-    inflow_of(rates, prepared, state, u) * UNIT / prepared.divisor
+    inflow_of(rates, divisors, state, u) * UNIT / divisors.plasma
 }
 
 // Point 2: the new amount of compartment i (B-9).
-fn new_amount(rates: Rates, prepared: Prepared, state: State, u: u64, p: u64, i: usize) -> u64
-    requires { ⌜ (Ready rates prepared state u) × (p ≡ solvedPlasma rates (state .lead) u) × (i < 6) ⌝ }
+fn new_amount(rates: Rates, divisors: Divisors, state: State, u: u64, p: u64, i: usize) -> u64
+    requires { ⌜ (Ready rates divisors state u) × (p ≡ solvedPlasma rates (state .lead) u) × (i < 6) ⌝ }
     ensures { λ n. ⌜ Is (newAmount rates (state .lead) (solvedPlasma rates (state .lead) u) i) 150_000_000_000 n ⌝ }
 {
-    (state.lead[i + COMPARTMENTS_AT] * UNIT + rates.out[i] * p) / prepared.divisors[i]
+    (state.lead[i + COMPARTMENTS_AT] * UNIT + rates.out[i] * p) / divisors.compartments[i]
 }
 
 // Point 3: what leaves the body at a rate.
-fn exit_of(rate: u64, amount: u64) -> u64
+fn excreted(rate: u64, amount: u64) -> u64
     requires { ⌜ rate * amount ≤ 7_500_000_000_000_000_000 ⌝ }
     ensures { λ x. ⌜ Is (rate * amount / unit) 75_000_000_000 x ⌝ }
 {
@@ -78,20 +78,20 @@ pub fn burden_of(state: State) -> u64
 }
 
 // One step that absorbs u.
-pub fn step(rates: Rates, prepared: Prepared, state: State, u: u64) -> State
-    requires { ⌜ Ready rates prepared state u ⌝ }
+pub fn step(rates: Rates, divisors: Divisors, state: State, u: u64) -> State
+    requires { ⌜ Ready rates divisors state u ⌝ }
     ensures { λ t. ⌜ t ≡ next rates state u ⌝ }
 {
-    let p = solved_plasma(rates, prepared, state, u);
-    let red_cells = new_amount(rates, prepared, state, u, p, RED_CELLS);
-    let liver = new_amount(rates, prepared, state, u, p, LIVER);
-    let kidney = new_amount(rates, prepared, state, u, p, KIDNEY);
-    let other = new_amount(rates, prepared, state, u, p, OTHER);
-    let trabecular = new_amount(rates, prepared, state, u, p, TRABECULAR);
-    let cortical = new_amount(rates, prepared, state, u, p, CORTICAL);
-    let urine = exit_of(rates.urine, p);
-    let faeces = exit_of(rates.faeces, liver);
-    let skin = exit_of(rates.skin, other);
+    let p = solved_plasma(rates, divisors, state, u);
+    let red_cells = new_amount(rates, divisors, state, u, p, RED_CELLS);
+    let liver = new_amount(rates, divisors, state, u, p, LIVER);
+    let kidney = new_amount(rates, divisors, state, u, p, KIDNEY);
+    let other = new_amount(rates, divisors, state, u, p, OTHER);
+    let trabecular = new_amount(rates, divisors, state, u, p, TRABECULAR);
+    let cortical = new_amount(rates, divisors, state, u, p, CORTICAL);
+    let urine = excreted(rates.urine, p);
+    let faeces = excreted(rates.faeces, liver);
+    let skin = excreted(rates.skin, other);
     let amounts = red_cells + liver + kidney + other + trabecular + cortical;
     let total = burden_of(state) + u;
     let plasma = total - amounts - (urine + faeces + skin);

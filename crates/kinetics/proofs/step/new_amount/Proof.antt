@@ -1,7 +1,7 @@
 -- `kinetics::step::new_amount` meets its contract, for any of the six.
 -- Assumes nothing.
 use native.Mathlib.Omega.{arith}
-use Rattle.kinetics.proofs.Bounds.{amount-le, inflow-at-fits, newAmount-is, prepared-divisors-pos}
+use Rattle.kinetics.proofs.Bounds.{amount-le, inflow-at-fits, newAmount-is, compartments-pos}
 use borrow.Author.Needs.{needs}
 use Rattle.kinetics.proofs.step.new_amount.Statement.{statement}
 use Rattle.kinetics.proofs.step.new_amount.Tie as tie
@@ -37,7 +37,7 @@ element-copy-out-result-3 : tie.Need-element-copy-out-result-3
 element-copy-out-result-3 c = search needs
 
 div-result : tie.Need-div-result
-div-result c = prepared-divisors-pos (c .before .before .before .pre .0) (c .before .before .before .pre .2)
+div-result c = compartments-pos (c .before .before .before .pre .0) (c .before .before .before .pre .2)
 
 returns : tie.Need-returns
 returns c = newAmount-is (c .before .before .before .pre .0) (c .before .before .before .pre .2) (c .before .before .before .pre .1)

@@ -1,7 +1,7 @@
 -- `kinetics::step::returned_at` meets its contract, for any of the six.
 -- Assumes nothing.
 use native.Mathlib.Omega.{arith}
-use Rattle.kinetics.proofs.Bounds.{back-amount-fits, prepared-divisors-pos, returned-is}
+use Rattle.kinetics.proofs.Bounds.{back-amount-fits, compartments-pos, returned-is}
 use borrow.Author.Needs.{needs}
 use Rattle.kinetics.proofs.step.returned_at.Statement.{statement}
 use Rattle.kinetics.proofs.step.returned_at.Tie as tie
@@ -31,7 +31,7 @@ element-copy-out-result-3 : tie.Need-element-copy-out-result-3
 element-copy-out-result-3 c = search needs
 
 div-result : tie.Need-div-result
-div-result c = prepared-divisors-pos (c .before .before .before .pre .0) (c .before .before .before .pre .1)
+div-result c = compartments-pos (c .before .before .before .pre .0) (c .before .before .before .pre .1)
 
 returns : tie.Need-returns
 returns c = returned-is (c .before .before .before .pre .0) (c .before .before .before .pre .1)

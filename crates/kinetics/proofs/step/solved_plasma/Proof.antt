@@ -1,6 +1,6 @@
 -- `kinetics::step::solved_plasma` meets its contract.
 -- Assumes nothing.
-use Rattle.kinetics.proofs.Bounds.{solvedPlasma-is, prepared-divisor-pos}
+use Rattle.kinetics.proofs.Bounds.{solvedPlasma-is, plasma-pos}
 use borrow.Author.Needs.{needs}
 use Rattle.kinetics.proofs.step.solved_plasma.Statement.{statement}
 use Rattle.kinetics.proofs.step.solved_plasma.Tie as tie
@@ -12,7 +12,7 @@ mul-result : tie.Need-mul-result
 mul-result c = search needs
 
 div-result : tie.Need-div-result
-div-result c = prepared-divisor-pos (c .before .before .pre)
+div-result c = plasma-pos (c .before .before .pre)
 
 returns : tie.Need-returns
 returns c = solvedPlasma-is (c .before .before .pre) (c .before .inflow-of .ensures .value)

@@ -30,17 +30,17 @@ new-amount-requires-5 c κs = search needs
 new-amount-requires-6 : tie.Need-new-amount-requires-6
 new-amount-requires-6 c κs = search needs
 
-exit-of-requires : tie.Need-exit-of-requires
-exit-of-requires c κs =
+excreted-requires : tie.Need-excreted-requires
+excreted-requires c κs =
     urine-fits (c .before .before .before .before .before .before .before .pre) (c .before .before .before .before .before .before .solved-plasma .ensures)
 
-exit-of-requires-2 : tie.Need-exit-of-requires-2
-exit-of-requires-2 c κs =
+excreted-requires-2 : tie.Need-excreted-requires-2
+excreted-requires-2 c κs =
     let ready = c .before .before .before .before .before .before .before .before .pre in
     exit-fits ready {i = 1} (omega arith) (c .before .before .before .before .before .new-amount2 .ensures .value) _ (ready .limits .faeces)
 
-exit-of-requires-3 : tie.Need-exit-of-requires-3
-exit-of-requires-3 c κs =
+excreted-requires-3 : tie.Need-excreted-requires-3
+excreted-requires-3 c κs =
     let ready = c .before .before .before .before .before .before .before .before .before .pre in
     exit-fits ready {i = 3} (omega arith) (c .before .before .before .before .new-amount4 .ensures .value) _ (ready .limits .skin)
 
@@ -84,9 +84,9 @@ parts c =
       m4 = c6 .new-amount4 .result;
       m5 = c5 .new-amount5 .result;
       m6 = c4 .new-amount6 .result;
-      x = c3 .exit-of .result;
-      y = c2 .exit-of2 .result;
-      z = c1 .exit-of3 .result;
+      x = c3 .excreted .result;
+      y = c2 .excreted2 .result;
+      z = c1 .excreted3 .result;
       total = ap (λ (n : ℕ). n + c10 .before .args .u) (c .burden-of .ensures);
       solved = c10 .solved-plasma .ensures;
       new1 = c9 .new-amount .ensures .value;
@@ -95,9 +95,9 @@ parts c =
       new4 = c6 .new-amount4 .ensures .value;
       new5 = c5 .new-amount5 .ensures .value;
       new6 = c4 .new-amount6 .ensures .value;
-      urine = c3 .exit-of .ensures .value;
-      faeces = c2 .exit-of2 .ensures .value;
-      skin = c1 .exit-of3 .ensures .value;
+      urine = c3 .excreted .ensures .value;
+      faeces = c2 .excreted2 .ensures .value;
+      skin = c1 .excreted3 .ensures .value;
     }
 
 add-total : tie.Need-add-total
@@ -147,9 +147,9 @@ step-spec =
     new-amount-requires-4
     new-amount-requires-5
     new-amount-requires-6
-    exit-of-requires
-    exit-of-requires-2
-    exit-of-requires-3
+    excreted-requires
+    excreted-requires-2
+    excreted-requires-3
     add-amounts
     add-amounts-2
     add-amounts-3

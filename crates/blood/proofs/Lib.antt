@@ -1,0 +1,2 @@
+pub mod FigureFits
+pub mod Newborn

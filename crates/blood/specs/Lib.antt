@@ -1,0 +1,3 @@
+pub mod Birth
+pub mod Blood
+pub mod Laws

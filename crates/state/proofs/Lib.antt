@@ -1,0 +1,2 @@
+pub mod SoundState
+pub mod StateCheck
