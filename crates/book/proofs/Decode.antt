@@ -16,7 +16,7 @@ use Rattle.block.specs.Block.{blockBytes, blockRefusal, fieldsOf, blockAt}
 use Rattle.block.proofs.Laws.{field}
 use Rattle.row.specs.Row.{numbersARow, rowsABlock, rowNumbers, rowFrom, rowOf, rowFits, rowsFit}
 use Rattle.book.specs.Book.{bookBlocks, numbersABlock, tableNumbers, bookForm, blockNumbers, bookBlockRefusal, blocksRefusal, bookNumber, numbersOf}
-use Rattle.book.specs.Contracts.{placed, BlockDecoded, BookDecoded}
+use Rattle.book.specs.Internal.{placed, BlockDecoded, BookDecoded}
 use Rattle.row.proofs.Tests.{monthFits}
 
 -- the part of the book that the code lends is the block

@@ -9,7 +9,7 @@ use borrow.Author.Tests.{eq-eqb, ne-eqb}
 use Rattle.numbers.proofs.Refusals.{orElse-last, answer-refused}
 use Rattle.numbers.specs.Choice.{unless}
 use Rattle.book.specs.Book.{bookBytes, tableNumbers, bookRefusal, numbersOf, blankTable, bookTable}
-use Rattle.book.specs.Contracts.{BookDecoded}
+use Rattle.book.specs.Internal.{BookDecoded}
 
 module _ (book : List ℕ) where
   -- a refusal, beside a table that was set to zeros

@@ -1,3 +1,3 @@
 pub mod Book
 pub mod Laws
-pub mod Contracts
+pub mod Internal

@@ -9,7 +9,7 @@ ghost use mathlib.Core.Path.{_≡_};
 ghost use Prim.Native.Nat.{_<_};
 ghost use lib.ListN.{length, replicate};
 ghost use Rattle.book.specs.Book.{bookBlocks, bookBytes, tableNumbers, bookForm, bookRefusal, bookTable};
-ghost use Rattle.book.specs.Contracts.{BlockDecoded, BookDecoded};
+ghost use Rattle.book.specs.Internal.{BlockDecoded, BookDecoded};
 
 // A book row outside its limits.
 const ROW_OUTSIDE_LIMITS: u32 = 8;

@@ -1,17 +1,17 @@
 -- The child that accepted files give birth to, its refusal, and what is answered.
 -- Assumes nothing.
-use Prim.Native.Nat.{ℕ, zero, suc}
+use Prim.Native.Nat.{ℕ}
 use mathlib.Core.List.{List}
 use lib.Dec.{leb}
-use Rattle.numbers.specs.Choice.{unless}
+use Rattle.numbers.specs.Choice.{unless, answerBy}
 use Rattle.site.specs.declared.Scenario.{Scenario}
 use Rattle.site.specs.Scenario.{motherOf}
-use Rattle.book.specs.Row.{rowOf}
+use Rattle.row.specs.Row.{rowOf}
 use Rattle.kinetics.specs.declared.State.{State}
-use Rattle.kinetics.specs.Birth.{birthState}
+use Rattle.blood.specs.Birth.{birthState}
 use Rattle.kinetics.specs.Step.{burden, burdenLimit}
 use Rattle.child.specs.declared.BirthAnswer.{BirthAnswer}
-use Rattle.child.specs.State.{zeroState}
+use Rattle.state.specs.State.{zeroState}
 
 -- the child that a scenario and a book's table give birth to
 unfoldable pub newborn : Scenario → List ℕ → State
@@ -21,7 +21,12 @@ newborn scenario table = birthState (rowOf table 0) (motherOf scenario)
 unfoldable pub newbornRefusal : Scenario → List ℕ → ℕ
 newbornRefusal scenario table = unless (leb (burden (newborn scenario table .lead)) burdenLimit) 22
 
--- a refused birth answers the all-zero state
+-- an accepted birth answers the child, a refused one the all-zero state
+abbrev pub acceptedBirth : State → BirthAnswer
+acceptedBirth child = record { refusal = 0; state = child }
+
+abbrev pub refusedBirth : ℕ → BirthAnswer
+refusedBirth r = record { refusal = r; state = zeroState }
+
 abbrev pub birthAnswer : ℕ → State → BirthAnswer
-birthAnswer zero child = record { refusal = 0; state = child }
-birthAnswer (suc r) child = record { refusal = suc r; state = zeroState }
+birthAnswer r child = answerBy r (acceptedBirth child) refusedBirth

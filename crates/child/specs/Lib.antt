@@ -1,6 +1,5 @@
--- What a child of accepted files comes to.
-pub mod State
-pub mod Steps
+-- A child of accepted files: its birth, a month of it, and the months of a run.
 pub mod Birth
 pub mod Month
-pub mod Ready
+pub mod Months
+pub mod Internal

@@ -1,28 +1,28 @@
 -- A month of a child of accepted files: its uptake, its steps, its refusals in their order, and what is answered. s is the number of steps a day.
 -- Assumes nothing.
-use Prim.Native.Nat.{ℕ, zero, suc, _+_}
+use Prim.Native.Nat.{ℕ, _+_}
 use mathlib.Core.List.{List, [], _∷_}
-use Rattle.numbers.specs.Choice.{firstOf}
+use Rattle.numbers.specs.Choice.{firstOf, answerBy}
 use Rattle.site.specs.declared.Scenario.{Scenario}
-use Rattle.site.specs.declared.Exposure.{Exposure}
-use Rattle.site.specs.Scenario.{exposureAt}
-use Rattle.book.specs.declared.Rates.{Rates}
-use Rattle.book.specs.declared.Row.{Row}
-use Rattle.book.specs.Row.{rowOf}
+use Rattle.exposure.specs.declared.Exposure.{Exposure}
+use Rattle.exposure.specs.Exposure.{exposureAt}
+use Rattle.row.specs.declared.Rates.{Rates}
+use Rattle.row.specs.declared.Row.{Row}
+use Rattle.row.specs.Row.{rowOf}
 use Rattle.uptake.specs.Age.{ageOf}
-use Rattle.uptake.specs.Intake.{intakeRefusal}
+use Rattle.intake.specs.Intake.{intakeRefusal}
 use Rattle.uptake.specs.Uptake.{dayUptake}
 use Rattle.kinetics.specs.declared.State.{State}
-use Rattle.kinetics.specs.Blood.{bloodOf}
+use Rattle.blood.specs.Blood.{bloodOf}
 use Rattle.child.specs.declared.MonthAnswer.{MonthAnswer}
-use Rattle.child.specs.State.{stateRefusal}
-use Rattle.child.specs.Steps.{daysAMonth, daysShares, lastFrom, stepsRefusal}
+use Rattle.state.specs.State.{stateRefusal}
+use Rattle.steps.specs.Steps.{daysAMonth, daysShares, lastFrom, stepsRefusal}
 
 -- the month that a call from state a makes: the one after that of a
 abbrev pub monthAfter : State → ℕ
 monthAfter a = a .month + 1
 
--- what a scenario says for month m, by its age
+-- the exposure of month m, by its age
 abbrev pub exposureIn : Scenario → ℕ → Exposure
 exposureIn scenario m = exposureAt scenario (ageOf m)
 
@@ -51,17 +51,19 @@ acceptedMonth a last row =
     }
 
 abbrev pub monthAnswer : ℕ → State → State → Row → MonthAnswer
-monthAnswer zero a last row = acceptedMonth a last row
-monthAnswer (suc r) a last row = refusedMonth (suc r) a
+monthAnswer r a last row = answerBy r (acceptedMonth a last row) (λ n. refusedMonth n a)
 
 module _ (s : ℕ) (a : State) (scenario : Scenario) (table : List ℕ) where
   -- why a month of files that pass is refused: 20, 21, 9, 22
-  unfoldable pub childRefusal : ℕ
-  childRefusal =
-      firstOf (stateRefusal a
+  abbrev pub childRefusals : List ℕ
+  childRefusals =
+      stateRefusal a
       ∷ intakeRefusal (exposureIn scenario (monthAfter a))
       ∷ stepsRefusal (monthRates table (monthAfter a)) a (monthShares s scenario table (monthAfter a))
-      ∷ [])
+      ∷ []
+
+  unfoldable pub childRefusal : ℕ
+  childRefusal = firstOf childRefusals
 
   -- the state that the month's steps leave
   unfoldable pub monthLast : State

@@ -1,25 +1,23 @@
-// A child of accepted files: its birth, and a month of it.
-use book::Row;
+// A child of accepted files: its birth, a month of it, and the months of a run.
 use kinetics::State;
+use row::Row;
 use site::Scenario;
+use state::BURDEN_MOST;
+use state::BURDEN_TOO_LARGE;
 ghost use mathlib.Core.Path.{_≡_};
 ghost use Prim.Native.Nat.{_≤_, _<_};
 ghost use lib.ListN.{length};
-ghost use Rattle.book.specs.Limits.{RowLimits};
+ghost use Rattle.row.specs.Limits.{RowLimits};
 ghost use Rattle.kinetics.specs.Step.{burden, burdenLimit};
-ghost use Rattle.child.specs.State.{zeroState, stateRefusal};
-ghost use Rattle.child.specs.Steps.{stepsADay};
+ghost use Rattle.row.specs.Row.{lastMonth};
+ghost use Rattle.book.specs.Book.{tableNumbers};
+ghost use Rattle.state.specs.State.{stateRefusal};
+ghost use Rattle.steps.specs.Steps.{stepsADay};
 ghost use Rattle.child.specs.Birth.{newborn, newbornRefusal, birthAnswer};
 ghost use Rattle.child.specs.Month.{refusedMonth, acceptedMonth};
-ghost use Rattle.child.specs.Ready.{Decoded, steppedMonth, monthFrom, childMonth};
+ghost use Rattle.child.specs.Internal.{Decoded, steppedMonth, monthFrom, childMonth};
 
-mod check; // check.rt: refusals 20 and 21
-mod steps; // steps.rt: the steps of a month
-
-// Burden, with the step's uptake, over its limit.
-const BURDEN_TOO_LARGE: u32 = 22;
-
-const BURDEN_MOST: u64 = 50_000_000_000; // pg
+pub mod months; // months.rt: the months of a run
 
 const STEPS_A_DAY: u64 = 6;
 
@@ -39,34 +37,24 @@ pub struct MonthAnswer {
     pub blood: u32, // thousandths of ug/dL
 }
 
-// Where some steps ended: a refusal, or 0 and the state that they left.
-pub struct Reached {
+// What a run answers: 0, or the refusal that ended it; the months done, and the last month end.
+pub struct RunAnswer {
     pub refusal: u32,
+    pub months: u32,
     pub state: State,
-}
-
-// The all-zero state.
-pub fn zero_state() -> State
-    ensures { λ r. ⌜ r ≡ zeroState ⌝ }
-{
-    State {
-        month: 0,
-        lead: [0, 0, 0, 0, 0, 0, 0],
-        ledgers: [0, 0, 0],
-    }
 }
 
 // Birth from accepted files.
 pub fn born(scenario: Scenario, table: &[u32]) -> BirthAnswer
-    requires { ⌜ (length (now table) ≡ 1955) × (Decoded scenario (now table)) ⌝ }
+    requires { ⌜ (length (now table) ≡ tableNumbers) × (Decoded scenario (now table)) ⌝ }
     ensures { λ r. ⌜ r ≡ birthAnswer (newbornRefusal scenario (now (table .entry))) (newborn scenario (now (table .entry))) ⌝ }
 {
-    let row = book::table::row_at(table, 0);
-    let mother = site::by_age::mother_of(scenario);
-    let child = kinetics::birth::birth_state(row, mother);
-    let held = check::capped_sum(&child.lead);
+    let row = row::table::row_at(table, 0);
+    let mother = exposure::mother_of(scenario);
+    let child = blood::birth::birth_state(row, mother);
+    let held = state::capped_sum(&child.lead);
     if held > BURDEN_MOST {
-        let zero = zero_state();
+        let zero = state::zero_state();
         return BirthAnswer {
             refusal: BURDEN_TOO_LARGE,
             state: zero,
@@ -91,10 +79,10 @@ pub fn refused_month(refusal: u32, state: State) -> MonthAnswer
 
 // An accepted month: what its steps left, with the month's number and its blood figure.
 fn accepted_month(state: State, last: State, row: Row) -> MonthAnswer
-    requires { ⌜ (state .month < 84) × (burden (last .lead) ≤ burdenLimit) × (RowLimits row) ⌝ }
+    requires { ⌜ (state .month < lastMonth) × (burden (last .lead) ≤ burdenLimit) × (RowLimits row) ⌝ }
     ensures { λ r. ⌜ r ≡ acceptedMonth state last row ⌝ }
 {
-    let blood = kinetics::blood::blood(row, last);
+    let blood = blood::figure::blood_figure(row, last);
     let month = state.month + 1;
     let lead = last.lead;
     let ledgers = last.ledgers;
@@ -110,14 +98,14 @@ fn accepted_month(state: State, last: State, row: Row) -> MonthAnswer
     }
 }
 
-// The month's steps, where its row and its day's uptake t are known.
+// The month's steps, given its row and its day's uptake t.
 fn stepped_month(state: State, row: Row, t: u64) -> MonthAnswer
     requires { ⌜ (stateRefusal state ≡ 0) × (RowLimits row) × (t ≤ 6_000_000_000) ⌝ }
-    ensures { λ r. ⌜ r ≡ steppedMonth stepsADay state row t ⌝ }
+    ensures { λ r. ⌜ r ≡ steppedMonth stepsADay (λ b. row .rates) state row t ⌝ }
 {
     let rates = row.rates;
-    let prepared = kinetics::prepare::prepare(rates);
-    let reached = steps::days(rates, prepared, state, STEPS_A_DAY, t);
+    let divisors = kinetics::divisor::divisors_of(rates);
+    let reached = steps::days::days(rates, divisors, state, STEPS_A_DAY, t);
     let over = reached.refusal;
     let last = reached.state;
     if over != 0 {
@@ -128,29 +116,29 @@ fn stepped_month(state: State, row: Row, t: u64) -> MonthAnswer
 
 // A month of a child whose state can have one.
 fn month_after(state: State, scenario: Scenario, table: &[u32]) -> MonthAnswer
-    requires { ⌜ (length (now table) ≡ 1955) × (Decoded scenario (now table)) × (stateRefusal state ≡ 0) ⌝ }
+    requires { ⌜ (length (now table) ≡ tableNumbers) × (Decoded scenario (now table)) × (stateRefusal state ≡ 0) ⌝ }
     ensures { λ r. ⌜ r ≡ monthFrom stepsADay state scenario (now (table .entry)) ⌝ }
 {
     let month = state.month + 1;
     let age = uptake::age::age_of(month);
-    let exposure = site::by_age::exposure_at(scenario, age as usize);
-    let intakes = uptake::intake::intakes_of(exposure);
-    let refusal = uptake::intake::intake_refusal(intakes);
+    let exposure = exposure::exposure_at(scenario, age as usize);
+    let intakes = intake::intakes_of(exposure);
+    let refusal = intake::intake_refusal(intakes);
     if refusal != 0 {
         return refused_month(refusal, state);
     }
-    let row = book::table::row_at(table, month as usize);
-    let row24 = book::table::row_at(table, SATURATION_MONTH);
+    let row = row::table::row_at(table, month as usize);
+    let row24 = row::table::row_at(table, SATURATION_MONTH);
     let t = uptake::day::day_uptake(exposure, intakes, row.body_weight, row24.body_weight);
     stepped_month(state, row, t)
 }
 
 // A month from accepted files: refusals 20, 21, 9, 22.
 pub fn child_month(state: State, scenario: Scenario, table: &[u32]) -> MonthAnswer
-    requires { ⌜ (length (now table) ≡ 1955) × (Decoded scenario (now table)) ⌝ }
+    requires { ⌜ (length (now table) ≡ tableNumbers) × (Decoded scenario (now table)) ⌝ }
     ensures { λ r. ⌜ r ≡ childMonth stepsADay state scenario (now (table .entry)) ⌝ }
 {
-    let refusal = check::state_refusal(state);
+    let refusal = state::state_refusal(state);
     if refusal != 0 {
         return refused_month(refusal, state);
     }

@@ -10,7 +10,7 @@ use lib.Dec.{leb}
 use Rattle.numbers.specs.Choice.{every}
 use Rattle.numbers.proofs.Lists.{each-getD}
 use Rattle.site.specs.declared.Scenario.{Scenario}
-use Rattle.site.specs.Fields.{ages, singlesAt, at, limits, single, fieldsFit}
+use Rattle.site.specs.Fields.{lastAge, ages, singlesAt, at, limits, single, fieldsFit}
 use Rattle.site.specs.Site.{readSite}
 use Rattle.site.proofs.FieldsWithin.{field-le, range-le, saturation-ge, shares-le, accepted-fit}
 use Rattle.exposure.specs.Exposure.{percentagesFrom, exposureAt}
@@ -19,7 +19,7 @@ use Rattle.exposure.specs.Laws.{ExposureWithin}
 
 module _ (fields : List ℕ) (fit : fieldsFit fields ≡ true) where
   -- a field that each age has, by the limit of its group
-  group-le : (group v : ℕ) → every (λ (place : ℕ). leb (at limits place) v) (ages * group) ages ≡ true → group < 10 → (age : ℕ) → age < ages
+  group-le : (group v : ℕ) → every (λ (place : ℕ). leb (at limits place) v) (ages * group) ages ≡ true → group < 10 → (age : ℕ) → age ≤ lastAge
       → at fields (ages * group + age) ≤ v
   group-le group v e room age h = range-le fields fit v (ages * group) ages e (omega arith) (ages * group + age) (omega arith) (omega arith)
 
@@ -43,7 +43,7 @@ module _ (fields : List ℕ) (fit : fieldsFit fields ≡ true) where
       medium
 
 -- of a scenario whose fields are within their limits
-pub exposure-within : (s : Scenario) → fieldsFit (s .fields) ≡ true → (age : ℕ) → age < ages → ExposureLimits (exposureAt s age)
+pub exposure-within : (s : Scenario) → fieldsFit (s .fields) ≡ true → (age : ℕ) → age ≤ lastAge → ExposureLimits (exposureAt s age)
 unfolding exposureAt limits every
 exposure-within s fit age h =
     let f = s .fields in

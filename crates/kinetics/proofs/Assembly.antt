@@ -8,7 +8,7 @@ use Rattle.numbers.specs.Sums.{sumTo}
 use Rattle.row.specs.declared.Rates.{Rates}
 use Rattle.row.specs.Row.{unit}
 use Rattle.kinetics.specs.declared.State.{State}
-use Rattle.kinetics.specs.Contracts.{DivisorsOf}
+use Rattle.kinetics.specs.Internal.{DivisorsOf}
 use Rattle.kinetics.specs.Step.{burden, liver, other, compartmentDivisor, retained, divisor, solvedPlasma, newAmount, urineExit, compartmentExit, exits, newPlasma, nextLead, urineLedger, faecesLedger, skinLedger, next}
 use Rattle.kinetics.proofs.Compartments.{at-six}
 use Rattle.kinetics.proofs.Balance.{never-cut-off}

@@ -15,7 +15,7 @@ use Rattle.kinetics.specs.declared.Divisors.{Divisors}
 use Rattle.kinetics.specs.Step.{amount, compartmentDivisor, returned, retained, inflow, divisor, solvedPlasma, newAmount, burdenLimit}
 use Rattle.numbers.specs.Bounds.{Is}
 use Rattle.numbers.proofs.Bounds.{is}
-use Rattle.kinetics.specs.Contracts.{Ready}
+use Rattle.kinetics.specs.Internal.{Ready}
 use Rattle.kinetics.proofs.DivisorMargin.{part-le, compartmentDivisor-pos, back-le, retained-eq, divisor-pos}
 
 half-le : (a b : ℕ) {e : ℕ} → 2 * b ≤ e → 0 < e → 2 * (a * b / e) ≤ a

@@ -2,4 +2,4 @@
 pub mod Step
 pub mod Solution
 pub mod Laws
-pub mod Contracts
+pub mod Internal

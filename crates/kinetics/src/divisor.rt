@@ -5,7 +5,7 @@ ghost use Rattle.row.specs.Row.{exit};
 ghost use Rattle.row.specs.Limits.{RateLimits};
 ghost use Rattle.kinetics.specs.Step.{compartmentDivisor, retained};
 ghost use Rattle.numbers.specs.Bounds.{Is};
-ghost use Rattle.kinetics.specs.Contracts.{DivisorsOf};
+ghost use Rattle.kinetics.specs.Internal.{DivisorsOf};
 use super::CORTICAL;
 use super::KIDNEY;
 use super::LIVER;

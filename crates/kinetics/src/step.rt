@@ -4,7 +4,7 @@ ghost use Prim.Native.Nat.{_+_, _*_, _/_, _≤_, _<_};
 ghost use Rattle.row.specs.Row.{unit};
 ghost use Rattle.kinetics.specs.Step.{burden, returned, inflow, solvedPlasma, newAmount, next, burdenLimit};
 ghost use Rattle.numbers.specs.Bounds.{Is};
-ghost use Rattle.kinetics.specs.Contracts.{Ready};
+ghost use Rattle.kinetics.specs.Internal.{Ready};
 use super::COMPARTMENTS_AT;
 use super::CORTICAL;
 use super::FAECES_AT;

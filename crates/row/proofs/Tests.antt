@@ -12,7 +12,7 @@ use Rattle.numbers.proofs.Lists.{each-getD, getD-below}
 use Rattle.row.specs.declared.Rates.{Rates}
 use Rattle.row.specs.declared.Row.{Row}
 use Rattle.row.specs.Row.{numbersARow, unit, out, back, exit, rowNumbers, rowOf, volumesFit, weightsFit, rowFits}
-use Rattle.row.specs.Contracts.{Rates32}
+use Rattle.row.specs.Internal.{Rates32}
 
 -- what compartment i gives back and loses is at most D
 abbrev pub returnFits : Rates → ℕ → Bool

@@ -1,4 +1,4 @@
 pub mod Row
 pub mod Limits
-pub mod Contracts
+pub mod Internal
 pub mod Laws

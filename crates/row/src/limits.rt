@@ -9,7 +9,7 @@ ghost use Prim.Native.Nat.{_+_, _*_, _≤_, _<_};
 ghost use lib.ListN.{length};
 ghost use Rattle.numbers.specs.Sums.{sumTo};
 ghost use Rattle.row.specs.Row.{numbersARow, rowsABlock, out, exit, volumesFit, weightsFit, returnsFit, ratesFit, rowFits, rowsFit};
-ghost use Rattle.row.specs.Contracts.{Rates32};
+ghost use Rattle.row.specs.Internal.{Rates32};
 
 // Limits of volumes, thousandths of dL.
 const BLOOD_LEAST: u64 = 1_000;

@@ -16,13 +16,13 @@ use Rattle.kinetics.specs.declared.State.{State}
 use Rattle.kinetics.specs.declared.Divisors.{Divisors}
 use Rattle.steps.specs.Share.{shareOf}
 use Rattle.kinetics.specs.Step.{burden, burdenLimit, exits, exitSum, next}
-use Rattle.kinetics.specs.Contracts.{DivisorsOf, Ready}
+use Rattle.kinetics.specs.Internal.{DivisorsOf, Ready}
 use Rattle.steps.proofs.ShareSum.{share-law}
 use Rattle.kinetics.proofs.StepLaws.{step-law}
 use Rattle.steps.specs.declared.Reached.{Reached}
 use Rattle.state.specs.State.{ledgerSum, monthLimit}
 use Rattle.steps.specs.Steps.{daysAMonth, sharesFrom, dayShares, daysShares, lastFrom, stepsRefusal}
-use Rattle.steps.specs.Contracts.{Steppable, ReachedBy}
+use Rattle.steps.specs.Internal.{Steppable, ReachedBy}
 use Rattle.steps.proofs.Shares.{sumOf, day-total, days-total}
 
 -- no lead is lost or made by a step

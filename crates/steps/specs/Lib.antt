@@ -1,4 +1,4 @@
 pub mod Share
 pub mod Steps
 pub mod Laws
-pub mod Contracts
+pub mod Internal

@@ -7,10 +7,10 @@ use row::Rates;
 use state::BURDEN_MOST;
 use state::BURDEN_TOO_LARGE;
 ghost use Prim.Native.Nat.{_*_};
-ghost use Rattle.kinetics.specs.Contracts.{DivisorsOf};
+ghost use Rattle.kinetics.specs.Internal.{DivisorsOf};
 ghost use Rattle.state.specs.State.{monthLimit};
 ghost use Rattle.steps.specs.Steps.{daysAMonth, dayShares, daysShares};
-ghost use Rattle.steps.specs.Contracts.{Steppable, ReachedBy};
+ghost use Rattle.steps.specs.Internal.{Steppable, ReachedBy};
 
 const DAYS_A_MONTH: u64 = 30;
 

@@ -7,7 +7,7 @@ use Rattle.site.specs.Fields.{at}
 use Rattle.exposure.specs.Limits.{ExposureLimits}
 use Rattle.intake.specs.declared.Intakes.{Intakes}
 use Rattle.intake.specs.Intake.{intakesOf, refusalOf, intakeRefusal}
-use Rattle.uptake.specs.Contracts.{PassedIntakes}
+use Rattle.uptake.specs.Internal.{PassedIntakes}
 use Rattle.intake.proofs.Refusal9.{air-most, intake-most}
 
 -- by 9, tested on these intakes

@@ -8,7 +8,7 @@ use denote.Ref.{now}
 use Rattle.numbers.specs.Choice.{unless}
 use Rattle.block.specs.Block.{blockBytes, blockRefusal}
 use Rattle.book.specs.Book.{bookForm}
-use Rattle.book.specs.Contracts.{BlockDecoded}
+use Rattle.book.specs.Internal.{BlockDecoded}
 use Rattle.book.proofs.Decode.{stored, refused-by-header, checked-rows}
 use borrow.Author.Needs.{needs}
 use Rattle.book.proofs.decode_block.Statement.{statement}

@@ -6,11 +6,11 @@ use native.Mathlib.Omega.{arith}
 use lib.ListN.{length}
 use borrow.Author.Needs.{needs}
 use denote.Ref.{now}
-use Rattle.kinetics.specs.Birth.{birthState}
+use Rattle.blood.specs.Birth.{birthState}
 use Rattle.kinetics.specs.Step.{burden}
 use Rattle.child.specs.Birth.{newborn}
-use Rattle.child.proofs.StateCheck.{cap, capped-burden}
-use Rattle.child.proofs.Answers.{born-refused, born-accepted}
+use Rattle.state.proofs.StateCheck.{cap, capped-burden}
+use Rattle.child.proofs.BornAnswers.{born-refused, born-accepted}
 use Rattle.child.proofs.born.Statement.{statement}
 use Rattle.child.proofs.born.Tie as tie
 

@@ -3,7 +3,8 @@
 use mathlib.Core.Path.{sym, _∙_}
 use borrow.Author.Needs.{needs}
 use denote.Ref.{now}
-use Rattle.child.proofs.Calls.{child-refused, child-passed}
+use Rattle.steps.specs.Steps.{stepsADay}
+use Rattle.child.proofs.MonthAnswers.{child-refused, child-passed}
 use Rattle.child.proofs.child_month.Statement.{statement}
 use Rattle.child.proofs.child_month.Tie as tie
 
@@ -18,7 +19,7 @@ returns c =
     let r = c .before .before in
     let a = r .before .before .args in
     c .refused-month .ensures
-    ∙ child-refused 6 (a .state) (a .scenario) (now (a .table)) (r .state-refusal .result) (r .state-refusal .ensures) (c .before .if1 .taken)
+    ∙ child-refused stepsADay (a .state) (a .scenario) (now (a .table)) (r .state-refusal .result) (r .state-refusal .ensures) (c .before .if1 .taken)
 
 month-after-requires : tie.Need-month-after-requires
 month-after-requires c κs =
@@ -30,7 +31,7 @@ returns-2 c =
     let r = c .before .before in
     let a = r .before .before .args in
     c .month-after .ensures
-    ∙ child-passed 6 (a .state) (a .scenario) (now (a .table)) (sym (r .state-refusal .ensures) ∙ c .before .if1 .left)
+    ∙ child-passed stepsADay (a .state) (a .scenario) (now (a .table)) (sym (r .state-refusal .ensures) ∙ c .before .if1 .left)
 
 pub child-month-spec : {M : Type 1} → statement M
 child-month-spec =

@@ -4,13 +4,13 @@ use mathlib.Core.Path.{_≡_, sym, ap, _∙_}
 use native.Mathlib.Omega.{arith}
 use borrow.Author.Needs.{needs}
 use denote.Ref.{now}
-use Rattle.site.specs.Scenario.{exposureAt}
-use Rattle.site.specs.Limits.{ExposureLimits}
-use Rattle.uptake.specs.Intake.{intakesOf, refusalOf, intakeRefusal}
-use Rattle.uptake.proofs.Ready.{accept}
+use Rattle.exposure.specs.Exposure.{exposureAt}
+use Rattle.exposure.specs.Limits.{ExposureLimits}
+use Rattle.intake.specs.Intake.{intakesOf, refusalOf, intakeRefusal}
+use Rattle.uptake.proofs.PassedIntakes.{pass-intakes}
 use Rattle.child.specs.Month.{monthAfter, exposureIn}
-use Rattle.child.proofs.Passed.{month-after-most}
-use Rattle.child.proofs.Calls.{month-intake-refused, month-stepped, weights-within}
+use Rattle.steps.specs.Steps.{stepsADay}
+use Rattle.child.proofs.MonthAnswers.{month-after-most, month-intake-refused, month-stepped, weights-within}
 use Rattle.child.proofs.month_after.Statement.{statement}
 use Rattle.child.proofs.month_after.Tie as tie
 
@@ -53,7 +53,7 @@ returns c =
     let r = c .before .before in
     let a = r .before .before .before .before .before .before .args in
     c .refused-month .ensures
-    ∙ month-intake-refused 6 (a .state) (a .scenario) (now (a .table)) (r .intake-refusal .result) (refusal-is r) (c .before .if1 .taken)
+    ∙ month-intake-refused stepsADay (a .state) (a .scenario) (now (a .table)) (r .intake-refusal .result) (refusal-is r) (c .before .if1 .taken)
 
 row-at-requires : tie.Need-row-at-requires
 row-at-requires c κs =
@@ -67,7 +67,7 @@ day-uptake-requires : tie.Need-day-uptake-requires
 day-uptake-requires c κs =
     let r = c .before .before .before in
     let start = r .before .before .before .before .before .before in (
-      accept (exposure-within (r .before .before)) (r .before .intakes-of .ensures) (sym (r .intake-refusal .ensures) ∙ c .before .before .if1 .left),
+      pass-intakes (exposure-within (r .before .before)) (r .before .intakes-of .ensures) (sym (r .intake-refusal .ensures) ∙ c .before .before .if1 .left),
       weights-within (start .pre .1) (month-after-most (start .args .state) (start .pre .2)) (c .before .row-at .ensures) (c .row-at2 .ensures),
     )
 
@@ -86,7 +86,7 @@ returns-2 c =
     let r = rows .before .before in
     let a = r .before .before .before .before .before .before .args in
     c .stepped-month .ensures
-    ∙ month-stepped 6 (a .state) (a .scenario) (now (a .table)) (sym (refusal-is r) ∙ rows .before .if1 .left) (exposure-is (r .before .before))
+    ∙ month-stepped stepsADay (a .state) (a .scenario) (now (a .table)) (sym (refusal-is r) ∙ rows .before .if1 .left) (exposure-is (r .before .before))
     (rows .row-at .ensures) (c .before .before .row-at2 .ensures) (c .before .day-uptake .ensures .value)
 
 pub month-after-spec : {M : Type 1} → statement M

@@ -2,18 +2,19 @@
 -- Assumes nothing.
 use mathlib.Core.Path.{_∙_}
 use borrow.Author.Needs.{needs}
-use Rattle.child.proofs.Passed.{passed-before}
-use Rattle.child.proofs.Calls.{month-steppable, stepped-refused, stepped-accepted}
+use Rattle.steps.specs.Steps.{stepsADay}
+use Rattle.state.proofs.SoundState.{passed-before}
+use Rattle.child.proofs.MonthAnswers.{month-steppable, stepped-refused, stepped-accepted}
 use Rattle.child.proofs.stepped_month.Statement.{statement}
 use Rattle.child.proofs.stepped_month.Tie as tie
 
-prepare-requires : tie.Need-prepare-requires
-prepare-requires c κs = search needs
+divisors-of-requires : tie.Need-divisors-of-requires
+divisors-of-requires c κs = search needs
 
 days-requires : tie.Need-days-requires
 days-requires c κs =
     let start = c .before .before in
-    month-steppable (start .args .state) (start .pre .0) (start .pre .1) (c .prepare .ensures) (start .pre .2)
+    (c .divisors-of .ensures, month-steppable (start .args .state) (start .pre .0) (start .pre .1) (start .pre .2))
 
 refused-month-requires : tie.Need-refused-month-requires
 refused-month-requires c κs = search needs
@@ -22,7 +23,7 @@ returns : tie.Need-returns
 returns c =
     let d = c .before .before .before in
     let a = d .before .before .before .args in
-    c .refused-month .ensures ∙ stepped-refused (a .state) (a .row) (a .t) (d .days .result) (d .days .ensures) (c .before .if1 .taken)
+    c .refused-month .ensures ∙ stepped-refused stepsADay (λ b. a .row .rates) (a .state) (a .row) (a .t) (d .days .result) (d .days .ensures) (c .before .if1 .taken)
 
 accepted-month-requires : tie.Need-accepted-month-requires
 accepted-month-requires c κs =
@@ -34,13 +35,13 @@ returns-2 : tie.Need-returns-2
 returns-2 c =
     let d = c .before .before .before in
     let a = d .before .before .before .args in
-    c .accepted-month .ensures ∙ stepped-accepted (a .state) (a .row) (a .t) (d .days .result) (d .days .ensures) (c .before .if1 .left)
+    c .accepted-month .ensures ∙ stepped-accepted stepsADay (λ b. a .row .rates) (a .state) (a .row) (a .t) (d .days .result) (d .days .ensures) (c .before .if1 .left)
 
 pub stepped-month-spec : {M : Type 1} → statement M
 stepped-month-spec =
     tie.close
     (tie.spec
-    prepare-requires
+    divisors-of-requires
     days-requires
     refused-month-requires
     returns

@@ -1,21 +1,22 @@
--- `engine::months::months` meets its contract: the whole run is the figures written so far and the months from the state here.
+-- `child::months::months` meets its contract: the whole run is the figures written so far and the months from the state here.
 -- Assumes nothing.
 use Prim.Native.Nat.{_-_}
 use mathlib.Core.Path.{sym, _∙_}
 use native.Mathlib.Omega.{arith}
 use borrow.Author.Needs.{needs}
 use denote.Ref.{now}
-use Rattle.engine.specs.Ready.{childRun}
-use Rattle.child.specs.Ready.{childMonth}
-use Rattle.engine.proofs.Runs.{InRun, run-start, run-stop, run-next, run-end, child-kept}
-use Rattle.engine.proofs.months.months.Statement.{statement}
-use Rattle.engine.proofs.months.months.Tie as tie
+use Rattle.row.specs.Row.{lastMonth}
+use Rattle.steps.specs.Steps.{stepsADay}
+use Rattle.child.specs.Internal.{childMonth, childRun}
+use Rattle.child.proofs.RunLoop.{InRun, run-start, run-stop, run-next, run-end, child-kept}
+use Rattle.child.proofs.months.months.Statement.{statement}
+use Rattle.child.proofs.months.months.Tie as tie
 
 abbrev Inv-loop : tie.InvT-loop
-Inv-loop scenario table blood₀ here₀ done₀ blood here done = InRun (λ b. childMonth 6 b scenario table) here₀ blood₀ blood here done
+Inv-loop scenario table blood₀ here₀ done₀ blood here done = InRun (λ b. childMonth stepsADay b scenario table) here₀ blood₀ blood here done
 
 abbrev μ-loop : tie.MeasureT-loop
-μ-loop scenario table blood₀ here₀ done₀ blood here done = 84 - done
+μ-loop scenario table blood₀ here₀ done₀ blood here done = lastMonth - done
 
 loop-holds : tie.Need-loop-holds Inv-loop μ-loop
 loop-holds c = run-start _ _ _ (c .before .before .pre .1 .1)
@@ -39,7 +40,7 @@ returns c =
     let m = c .before in
     let l = m .before .before in
     let a = l .before .before .before .args in
-    run-stop (l .loop .inv) (m .before .loop-test .taken) (m .child-month .ensures) (child-kept 6 (a .scenario) (now (a .table))) (c .if1 .taken)
+    run-stop (l .loop .inv) (m .before .loop-test .taken) (m .child-month .ensures) (child-kept stepsADay (a .scenario) (now (a .table))) (c .if1 .taken)
 
 mul-blood : tie.Need-mul-blood Inv-loop μ-loop
 mul-blood c = search needs
