@@ -3,7 +3,9 @@
 use mathlib.Core.Path.{refl}
 use mathlib.Core.List.{[]}
 use native.Mathlib.Omega.{arith}
-use Rattle.printout.specs.Printout.{digitsWithin, figure, monthLine, refusedLine}
+use Rattle.text.specs.Decimal.{digitsWithin}
+use Rattle.text.specs.Figure.{figure}
+use Rattle.printout.specs.Printout.{monthLine, refusedLine}
 use Rattle.printout.specs.Bench.{Bench}
 use Rattle.printout.proofs.Length.{book-printed}
 

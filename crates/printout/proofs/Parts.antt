@@ -1,21 +1,14 @@
 -- The parts of a line put one after the other make the line.
 -- Assumes nothing.
 use mathlib.Core.Path.{_≡_}
-use Prim.Native.Nat.{ℕ, _/_, _%_}
+use Prim.Native.Nat.{ℕ}
 use mathlib.Core.List.{List, [], _∷_}
-use Rattle.printout.specs.Printout.{lineFeed, space, point, digit, decimal, tenths, figure, flag, monthLine, refusedText, afterText, refusedLine}
-use Rattle.printout.specs.Text.{Put}
-use Rattle.printout.proofs.Puts.{put-then}
-
-module _ {l₀ l₁ l₂ l₃ : List ℕ} {e₀ e₁ e₂ e₃ : ℕ} (blood : ℕ) where
-  pub put-figure : {n : ℕ} → n ≡ tenths blood
-      → Put l₀ e₀ (decimal (n / 10)) 10 l₁ e₁
-      → Put l₁ e₁ (point ∷ []) 1 l₂ e₂
-      → Put l₂ e₂ (digit (n % 10) ∷ []) 1 l₃ e₃
-      → Put l₀ e₀ (figure blood) 12 l₃ e₃
-  unfolding figure
-  put-figure same whole dot decimals =
-      rw same at (put-then whole (put-then dot decimals))
+use Rattle.text.specs.Characters.{lineFeed, space}
+use Rattle.text.specs.Decimal.{decimal}
+use Rattle.text.specs.Figure.{figure}
+use Rattle.text.specs.Contracts.{Put}
+use Rattle.text.proofs.Puts.{put-then}
+use Rattle.printout.specs.Printout.{flag, monthLine, refusedText, afterText, refusedLine}
 
 module _ {l₀ l₁ l₂ l₃ l₄ l₅ l₆ : List ℕ} {e₀ e₁ e₂ e₃ e₄ e₅ e₆ : ℕ} (month blood : ℕ) where
   pub put-month : {mark : ℕ} → mark ≡ flag blood

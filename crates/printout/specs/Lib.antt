@@ -1,6 +1,5 @@
 -- What leadline prints, as bytes, its lines one at a time, and its laws.
 pub mod Printout
-pub mod Text
 pub mod Lines
 pub mod Laws
 pub mod Bench

@@ -1,6 +1,6 @@
 -- The bytes that leadline prints, as a function of the bytes of its two files (document 01, "Bench figures", last paragraph).
 -- Assumes nothing.
-use Prim.Native.Nat.{ℕ, zero, suc, _+_, _/_, _%_}
+use Prim.Native.Nat.{ℕ, zero, suc}
 use mathlib.Core.Bool.{cond}
 use mathlib.Core.List.{List, [], _∷_, _++_}
 use lib.ListN.{length}
@@ -9,37 +9,9 @@ use Rattle.engine.specs.Files.{Files}
 use Rattle.child.specs.State.{lastMonth}
 use Rattle.child.specs.Steps.{stepsADay}
 use Rattle.engine.specs.Run.{Ran, runOf}
-
--- bytes that lines are made of
-abbrev pub lineFeed : ℕ
-lineFeed = 10
-
-abbrev pub space : ℕ
-space = 32
-
-abbrev pub point : ℕ
-point = 46
-
--- the byte of a digit below 10
-abbrev pub digit : ℕ → ℕ
-digit d = 48 + d
-
--- the decimal digits of n, without leading zeros, where k digits hold it
-unfoldable pub digitsWithin : ℕ → ℕ → List ℕ
-digitsWithin zero n = []
-digitsWithin (suc k) n = cond (ltb n 10) (digit n ∷ []) (digitsWithin k (n / 10) ++ (digit (n % 10) ∷ []))
-
--- the decimal digits of a number of 32 bits, which are ten at most
-abbrev pub decimal : ℕ → List ℕ
-decimal n = digitsWithin 10 n
-
--- a blood figure in tenths of ug/dL, rounded half up
-abbrev pub tenths : ℕ → ℕ
-tenths blood = (blood + 50) / 100
-
--- a blood figure in ug/dL, to one decimal
-unfoldable pub figure : ℕ → List ℕ
-figure blood = decimal (tenths blood / 10) ++ (point ∷ digit (tenths blood % 10) ∷ [])
+use Rattle.text.specs.Characters.{lineFeed, space}
+use Rattle.text.specs.Decimal.{decimal}
+use Rattle.text.specs.Figure.{figure}
 
 -- `W` if the unrounded figure is over 30,000, else `-`
 abbrev pub flag : ℕ → ℕ

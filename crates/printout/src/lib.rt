@@ -5,7 +5,6 @@ ghost use lib.ListN.{length, drop, getD};
 ghost use Rattle.engine.specs.Files.{filesOf};
 ghost use Rattle.printout.specs.Lines.{preparedOf, lineAt};
 
-mod text; // text.rt: bytes, text and decimal numbers, put into a line
 mod lines; // lines.rt: a month's line and the last line
 
 // Months of a whole run.

@@ -8,7 +8,7 @@ use native.Mathlib.Numerals.{add-one}
 use native.Mathlib.Omega.{arith}
 use lib.ListN.{length, take, drop, set, getD, length-append, length-set}
 use lib.Seq.{take-all, take-suc, sets, sets-eq}
-use Rattle.printout.specs.Text.{Put}
+use Rattle.text.specs.Contracts.{Put}
 
 -- a text stored past another: the two joined, stored at once
 sets-then : (x y l : List ℕ) (i : ℕ) → sets (sets l i x) (i + length x) y ≡ sets l i (x ++ y)
@@ -51,7 +51,7 @@ module _ {l : List ℕ} {place : ℕ} (text : List ℕ) where
   pub text-whole : {m : List ℕ} {i : ℕ} → i ≡ length text → Put l place (take i text) i m (place + i) → Put l place text (length text) m (place + i)
   text-whole {i = i} h f = put-as f (take-all i text (omega arith)) (omega arith)
 
--- a line put at the start, where it fits, is what the bytes begin with, and the rest is kept
+-- a line put at the start, if it fits, is what the bytes begin with, and the rest is kept
 pub put-line : {l a x y : List ℕ} {e p : ℕ} → y ≡ x → Put l 0 x p a e → p ≤ length l → (e ≡ length y) × (a ≡ y ++ drop (length y) l)
 put-line {l} {x = x} {e = e} same f fits =
     let end : e ≡ length x = f .past ∙ zero-add (length x) in

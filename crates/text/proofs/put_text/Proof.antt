@@ -1,14 +1,14 @@
--- `printout::text::put_text` meets its contract: the bytes put so far are the first of the text.
+-- `text::put_text` meets its contract: the bytes put so far are the first of the text.
 -- Assumes nothing.
 use Prim.Native.Nat.{_+_, _-_, _≤_}
 use native.Mathlib.Omega.{arith}
 use borrow.Author.Needs.{needs}
 use denote.Ref.{now}
 use lib.ListN.{length, take}
-use Rattle.printout.specs.Text.{Put}
-use Rattle.printout.proofs.Puts.{text-none, text-next, text-whole}
-use Rattle.printout.proofs.text.put_text.Statement.{statement}
-use Rattle.printout.proofs.text.put_text.Tie as tie
+use Rattle.text.specs.Contracts.{Put}
+use Rattle.text.proofs.Puts.{text-none, text-next, text-whole}
+use Rattle.text.proofs.put_text.Statement.{statement}
+use Rattle.text.proofs.put_text.Tie as tie
 
 abbrev Inv-loop : tie.InvT-loop
 Inv-loop target₀ place text put₀ target put = (put ≤ length text) × (Put target₀ place (take put text) put target (place + put))

@@ -1,9 +1,9 @@
--- `printout::lines::put_figure` meets its contract: the whole part, a point, and one decimal.
+-- `text::put_figure` meets its contract: the whole part, a point, and one decimal.
 -- Assumes nothing.
 use borrow.Author.Needs.{needs}
-use Rattle.printout.proofs.Parts.{put-figure}
-use Rattle.printout.proofs.lines.put_figure.Statement.{statement}
-use Rattle.printout.proofs.lines.put_figure.Tie as tie
+use Rattle.text.proofs.FigureParts.{put-figure}
+use Rattle.text.proofs.put_figure.Statement.{statement}
+use Rattle.text.proofs.put_figure.Tie as tie
 
 tenths-of-requires : tie.Need-tenths-of-requires
 tenths-of-requires c κs = search needs

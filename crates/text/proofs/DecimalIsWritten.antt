@@ -7,9 +7,9 @@ use native.Mathlib.Decide.{decLt}
 use native.Mathlib.Omega.{arith}
 use lib.ListN.{length, getD, length-append, List·getD-append}
 use lib.Seq.{getD-at}
-use Rattle.printout.specs.Printout.{digit, digitsWithin}
-use Rattle.printout.specs.Laws.{valueFrom, DecimalLaw}
-use Rattle.printout.proofs.Digits.{digits-one, digits-last, tenth-below}
+use Rattle.text.specs.Decimal.{digit, digitsWithin}
+use Rattle.text.specs.Laws.{valueFrom, DecimalLaw}
+use Rattle.text.proofs.Digits.{digits-one, digits-last, tenth-below}
 
 value-last : (v : ℕ) (ds : List ℕ) (d : ℕ) → valueFrom v (ds ++ (d ∷ [])) ≡ 10 * valueFrom v ds + (d - 48)
 unfolding valueFrom
@@ -54,7 +54,7 @@ each-digit (suc k) n =
           rw (digits-last k n (omega arith)) (digits-then (digitsWithin k (n / 10)) (digit (n % 10)) (each-digit k (n / 10)) (omega arith, omega arith))
     ]
 
--- the first byte of a joined text, where the first part has one
+-- the first byte of a joined text is over `0` if that of its first part is
 first-then : (x y : List ℕ) → 48 < getD x 0 0 → 48 < getD (x ++ y) 0 0
 first-then [] y h = omega arith
 first-then (a ∷ x) y h = h

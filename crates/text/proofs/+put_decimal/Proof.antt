@@ -1,18 +1,18 @@
--- `printout::text::put_decimal` meets its contract: a number's digits are those of its tenth, and its last one. The measure is the number.
+-- `text::put_decimal` meets its contract: a number's digits are those of its tenth, and its last one. The measure is the number.
 -- Assumes nothing.
 use native.Mathlib.Omega.{arith}
 use borrow.Author.Needs.{needs}
-use Rattle.printout.proofs.Digits.{decimal-one, last-place, put-last}
-use Rattle.printout.proofs.Puts.{put-as}
+use Rattle.text.proofs.Digits.{decimal-one, last-place, put-last}
+use Rattle.text.proofs.Puts.{put-as}
 use Prim.Native.Nat.{ℕ, _<_}
 use borrow.Fn.Kinds.{In}
 use borrow.Fn.PlainCycle.{Measures, is, falls, and}
-use Rattle.printout.proofs.text.put_decimal.Reads as put-decimal
-use Rattle.printout.proofs.text.put_decimal.Kinds as put-decimal-kinds
-use Rattle.printout.proofs.text.+put_decimal.Lts-put_decimal as put-decimal-lts
-use Rattle.printout.proofs.text.put_digit.Reads as put-digit-reads
-use Rattle.printout.proofs.text.+put_decimal.{statement}
-use Rattle.printout.proofs.text.+put_decimal.Tie.{close}
+use Rattle.text.proofs.put_decimal.Reads as put-decimal
+use Rattle.text.proofs.put_decimal.Kinds as put-decimal-kinds
+use Rattle.text.proofs.+put_decimal.Lts-put_decimal as put-decimal-lts
+use Rattle.text.proofs.put_digit.Reads as put-digit-reads
+use Rattle.text.proofs.+put_decimal.{statement}
+use Rattle.text.proofs.+put_decimal.Tie.{close}
 
 abbrev μ-put-decimal : Measures 1 put-decimal-kinds.ps ℕ
 μ-put-decimal κs a = a .1 .1 .0
@@ -68,7 +68,7 @@ put-decimal-put-digit-requires-2 : (t : ℕ) → put-decimal-lts.Need-put-digit-
 put-decimal-put-digit-requires-2 t c κs =
     let start = c .before .before .before .before .before .before .before in
     let f = c .before .before .before .put-decimal .ensures in
-    (omega arith, omega (arith, last-place (start .args .n) (start .fits .n .fits) f, f .long))
+    (omega arith, omega (arith, last-place (start .args .n) (start .pre .1 .0) f, f .long))
 
 put-decimal-same-length-2 : (t : ℕ) → put-decimal-lts.Need-same-length-2 (
   put-digit-reads.Asked,
@@ -88,7 +88,7 @@ put-decimal-returns-2 t c =
     let front = c .before .before .before .before .before .before in
     let test = front .before .before in
     let start = test .before .before in
-    put-last (start .args .n) (start .fits .n .fits) (front .put-decimal .ensures) (test .if1 .left) (c .before .before .put-digit2 .ensures)
+    put-last (start .args .n) (start .pre .1 .0) (front .put-decimal .ensures) (test .if1 .left) (c .before .before .put-digit2 .ensures)
 
 pub +put-decimal-spec : {M : Type 1} → statement M
 +put-decimal-spec = close μ-put-decimal λ t. put-decimal-lts.spec (

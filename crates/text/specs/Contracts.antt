@@ -1,4 +1,4 @@
--- For the contracts between the functions: what the writers of a line do to the lent bytes. No open call's contract needs it.
+-- For the contracts between the functions: what the writers of a text do to the lent bytes.
 -- Assumes nothing.
 use mathlib.Core.Path.{_≡_}
 use Prim.Native.Nat.{ℕ, _+_, _≤_}

@@ -1,9 +1,9 @@
--- `printout::text::put_byte` meets its contract.
+-- `text::put_byte` meets its contract.
 -- Assumes nothing.
-use Rattle.printout.proofs.Puts.{put-one}
+use Rattle.text.proofs.Puts.{put-one}
 use borrow.Author.Needs.{needs}
-use Rattle.printout.proofs.text.put_byte.Statement.{statement}
-use Rattle.printout.proofs.text.put_byte.Tie as tie
+use Rattle.text.proofs.put_byte.Statement.{statement}
+use Rattle.text.proofs.put_byte.Tie as tie
 
 slice-write-target : tie.Need-slice-write-target
 slice-write-target c = search needs

@@ -8,9 +8,9 @@ use native.Mathlib.Decide.{decLt}
 use native.Mathlib.Omega.{arith}
 use borrow.Author.Tests.{lt-ltb, le-ltb}
 use lib.ListN.{length, length-append}
-use Rattle.printout.specs.Printout.{digit, digitsWithin, decimal}
-use Rattle.printout.specs.Text.{Put}
-use Rattle.printout.proofs.Puts.{put-then, put-as}
+use Rattle.text.specs.Decimal.{digit, digitsWithin, decimal}
+use Rattle.text.specs.Contracts.{Put}
+use Rattle.text.proofs.Puts.{put-then, put-as}
 
 -- a number below 10 is one digit; a larger one is the digits of its tenth and the last one
 pub digits-one : (k n : ℕ) → n < 10 → digitsWithin (suc k) n ≡ digit n ∷ []
@@ -37,7 +37,7 @@ digits-length (suc k) n =
 pub tenth-below : (k n : ℕ) → n < 10 ^ suc k → n / 10 < 10 ^ k
 tenth-below k n h = div-lt-iff-lt-mul {k = 10} {x = n} {y = 10 ^ k} (omega arith) .1 (rw pow-suc at h)
 
--- where k + 1 digits hold n, one more makes no difference
+-- if k + 1 digits hold n, one more makes no difference
 digits-enough : (k n : ℕ) → n < 10 ^ suc k → digitsWithin (suc (suc k)) n ≡ digitsWithin (suc k) n
 digits-enough zero n h = digits-one 1 n h ∙ sym (digits-one 0 n h)
 digits-enough (suc k) n h =
@@ -49,26 +49,26 @@ digits-enough (suc k) n h =
           ∙ sym (digits-last (suc k) n (omega arith))
     ]
 
--- ten digits hold a number of 32 bits, and nine hold a tenth of it
-module _ (n : ℕ) (fits : n < 4_294_967_296) where
+pub decimal-one : (n : ℕ) → n < 10 → digit n ∷ [] ≡ decimal n
+decimal-one n h = sym (digits-one 9 n h)
+
+-- ten digits hold a number below 10^10, and nine hold its tenth
+module _ (n : ℕ) (fits : n < 10_000_000_000) where
   tenth-nine : decimal (n / 10) ≡ digitsWithin 9 (n / 10)
   tenth-nine =
       let few : n / 10 < 1_000_000_000 = omega arith in
       digits-enough 8 (n / 10) few
 
-  pub tenth-short : length (decimal (n / 10)) ≤ 9
+  tenth-short : length (decimal (n / 10)) ≤ 9
   tenth-short = rw tenth-nine (digits-length 9 (n / 10))
 
-  pub decimal-last : 10 ≤ n → decimal n ≡ decimal (n / 10) ++ (digit (n % 10) ∷ [])
+  decimal-last : 10 ≤ n → decimal n ≡ decimal (n / 10) ++ (digit (n % 10) ∷ [])
   decimal-last h = rw tenth-nine (digits-last 9 n h)
 
-pub decimal-one : (n : ℕ) → n < 10 → digit n ∷ [] ≡ decimal n
-decimal-one n h = sym (digits-one 9 n h)
+  -- the number's digits put: its tenth's, and then the last one
+  module _ {l m : List ℕ} {i j : ℕ} (f : Put l i (decimal (n / 10)) 10 m j) where
+    pub last-place : j ≤ i + 9
+    last-place = omega (arith, f .past, tenth-short)
 
--- a number's digits put: its tenth's, and then the last one
-module _ {l m : List ℕ} {i j : ℕ} (n : ℕ) (fits : n < 4_294_967_296) (f : Put l i (decimal (n / 10)) 10 m j) where
-  pub last-place : j ≤ i + 9
-  last-place = omega (arith, f .past, tenth-short n fits)
-
-  pub put-last : {a : List ℕ} {e : ℕ} → 10 ≤ n → Put m j (digit (n % 10) ∷ []) 1 a e → Put l i (decimal n) 10 a e
-  put-last h g = put-as (put-then f g) (sym (decimal-last n fits h)) (omega (arith, last-place, g .small))
+    pub put-last : {a : List ℕ} {e : ℕ} → 10 ≤ n → Put m j (digit (n % 10) ∷ []) 1 a e → Put l i (decimal n) 10 a e
+    put-last h g = put-as (put-then f g) (sym (decimal-last h)) (omega (arith, last-place, g .small))
