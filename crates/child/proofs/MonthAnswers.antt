@@ -13,8 +13,6 @@ use Rattle.row.specs.Row.{lastMonth, rowOf}
 use Rattle.row.specs.Limits.{RowLimits}
 use Rattle.intake.specs.Intake.{intakeRefusal}
 use Rattle.kinetics.specs.declared.State.{State}
-use Rattle.kinetics.specs.declared.Divisors.{Divisors}
-use Rattle.kinetics.specs.Internal.{DivisorsOf}
 use Rattle.child.specs.declared.BirthAnswer.{BirthAnswer}
 use Rattle.child.specs.declared.MonthAnswer.{MonthAnswer}
 use Rattle.steps.specs.declared.Reached.{Reached}

@@ -1,7 +1,6 @@
 -- For the contracts between the functions: what the parts of a call ask of each other and promise. No open call's contract needs it.
 -- Assumes nothing.
-use mathlib.Core.Path.{_≡_}
-use Prim.Native.Nat.{ℕ, _^_, _+_, _≤_, _<_}
+use Prim.Native.Nat.{ℕ, _≤_}
 use mathlib.Core.List.{List}
 use Rattle.site.specs.declared.Scenario.{Scenario}
 use Rattle.exposure.specs.Exposure.{exposureAt}
@@ -10,13 +9,8 @@ use Rattle.site.specs.Scenario.{motherOf}
 use Rattle.exposure.specs.Limits.{ExposureLimits}
 use Rattle.row.specs.declared.Rates.{Rates}
 use Rattle.row.specs.Row.{lastMonth, rowOf}
-use Rattle.row.specs.Limits.{RateLimits, RowLimits}
+use Rattle.row.specs.Limits.{RowLimits}
 use Rattle.kinetics.specs.declared.State.{State}
-use Rattle.kinetics.specs.declared.Divisors.{Divisors}
-use Rattle.kinetics.specs.Step.{burden, burdenLimit}
-use Rattle.kinetics.specs.Internal.{DivisorsOf}
-use Rattle.steps.specs.declared.Reached.{Reached}
-use Rattle.state.specs.State.{ledgerSum}
 use Rattle.numbers.specs.Choice.{orElse}
 use Rattle.row.specs.declared.Row.{Row}
 use Rattle.intake.specs.Intake.{intakeRefusal}

@@ -2,53 +2,79 @@
 use book::TABLE_NUMBERS;
 use child::BirthAnswer;
 use child::MonthAnswer;
+use child::RunAnswer;
+use child::months::MONTHS;
 use kinetics::State;
 use site::Scenario;
 ghost use mathlib.Core.Path.{_≡_};
 ghost use lib.ListN.{length};
-ghost use Rattle.child.specs.Steps.{stepsADay};
+ghost use Rattle.steps.specs.Steps.{stepsADay};
+ghost use Rattle.child.specs.Months.{runAnswer, runList};
+ghost use Rattle.files.specs.Files.{filesOf};
 ghost use Rattle.engine.specs.Birth.{birthOf};
 ghost use Rattle.engine.specs.Month.{monthOf};
-ghost use Rattle.engine.specs.Ready.{refusedRun};
-ghost use Rattle.engine.specs.Files.{filesOf};
-ghost use Rattle.engine.specs.Run.{runOf, runAnswer, runList};
-
-mod months; // months.rt: the months of a run
-mod files; // files.rt: reading a call's files
+ghost use Rattle.engine.specs.Run.{runOf};
+ghost use Rattle.engine.specs.Internal.{refusedStart, Started, refusedRun};
 
 // Blood list not 84 long.
 const WRONG_LIST_LENGTH: u32 = 2;
 
-const MONTHS: usize = 84;
-
-// What a run answers: 0, or the refusal that ended it; the months done, and the last month end.
-pub struct RunAnswer {
+// What the start of a run answers: 0, the scenario and the newborn child; or a refusal, the blank scenario and the all-zero state.
+pub struct RunStart {
     pub refusal: u32,
-    pub months: u32,
+    pub scenario: Scenario,
     pub state: State,
 }
 
-// What reading a call's files came to: a refusal, or 0 and the scenario.
-pub struct FilesRead {
-    pub refusal: u32,
-    pub scenario: Scenario,
+// A start that is refused before birth.
+fn refused_start(refusal: u32) -> RunStart
+    ensures { λ r. ⌜ r ≡ refusedStart refusal ⌝ }
+{
+    let scenario = site::blank_scenario();
+    let state = state::zero_state();
+    RunStart {
+        refusal,
+        scenario,
+        state,
+    }
 }
 
-// Birth: the child at month 0.
+// The head of a run into a list of so many places: lengths, list, files, birth. The book is read into the table.
+fn start(site: &[u8], book: &[u8], places: usize, table: &mut [u32; TABLE_NUMBERS]) -> RunStart
+    ensures { λ r. ⌜ Started (filesOf (now (site .entry)) (now (book .entry))) places (now (table .exit)) r ⌝ }
+{
+    let lengths = files::length_refusal(site, book);
+    if lengths != 0 {
+        return refused_start(lengths);
+    }
+    if places != MONTHS {
+        return refused_start(WRONG_LIST_LENGTH);
+    }
+    let read = files::read_files(site, book, table);
+    let of_files = read.refusal;
+    if of_files != 0 {
+        return refused_start(of_files);
+    }
+    let scenario = read.scenario;
+    let birth = child::born(scenario, table);
+    let over = birth.refusal;
+    let state = birth.state;
+    RunStart {
+        refusal: over,
+        scenario,
+        state,
+    }
+}
+
+// Birth: the child at month 0. It is the start of a run, whose list is as long as it has to be.
 pub fn birth(site: &[u8], book: &[u8]) -> BirthAnswer
     ensures { λ r. ⌜ r ≡ birthOf (filesOf (now (site .entry)) (now (book .entry))) ⌝ }
 {
     let mut table = [0u32; TABLE_NUMBERS];
-    let read = files::read_files(site, book, &mut table);
-    let refusal = read.refusal;
-    if refusal != 0 {
-        return BirthAnswer {
-            refusal,
-            state: child::zero_state(),
-        };
-    }
-    let scenario = read.scenario;
-    child::born(scenario, &table)
+    let started = start(site, book, MONTHS, &mut table);
+    let refusal = started.refusal;
+    let state = started.state;
+    BirthAnswer { refusal, state }
 }
 
 // One month: the child a month later, and its blood figure.
@@ -65,14 +91,14 @@ pub fn month(state: State, site: &[u8], book: &[u8]) -> MonthAnswer
     child::child_month(state, scenario, &table)
 }
 
-// A run that was refused before its first month.
+// A run that is refused before its first month.
 fn refused_run(refusal: u32) -> RunAnswer
     ensures { λ r. ⌜ r ≡ refusedRun refusal ⌝ }
 {
     RunAnswer {
         refusal,
         months: 0,
-        state: child::zero_state(),
+        state: state::zero_state(),
     }
 }
 
@@ -81,25 +107,14 @@ pub fn run(site: &[u8], book: &[u8], blood: &mut [u32]) -> RunAnswer
     ensures { λ r. ⌜ r ≡ runAnswer (runOf stepsADay (filesOf (now (site .entry)) (now (book .entry))) (length (now (blood .entry)))) ⌝ }
     ensures { λ _. ⌜ now (blood .exit) ≡ runList (runOf stepsADay (filesOf (now (site .entry)) (now (book .entry))) (length (now (blood .entry)))) (now (blood .entry)) ⌝ }
 {
-    let lengths = files::length_refusal(site, book);
-    if lengths != 0 {
-        return refused_run(lengths);
-    }
-    if blood.len() != MONTHS {
-        return refused_run(WRONG_LIST_LENGTH);
-    }
     let mut table = [0u32; TABLE_NUMBERS];
-    let read = files::read_files(site, book, &mut table);
-    let refusal = read.refusal;
+    let places = blood.len();
+    let started = start(site, book, places, &mut table);
+    let refusal = started.refusal;
     if refusal != 0 {
         return refused_run(refusal);
     }
-    let scenario = read.scenario;
-    let birth = child::born(scenario, &table);
-    let over = birth.refusal;
-    if over != 0 {
-        return refused_run(over);
-    }
-    let state = birth.state;
-    months::months(state, scenario, &table, blood)
+    let scenario = started.scenario;
+    let state = started.state;
+    child::months::months(state, scenario, &table, blood)
 }

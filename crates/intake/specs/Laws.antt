@@ -1,7 +1,7 @@
 -- The law of refusal 9.
 -- Assumes nothing.
 use mathlib.Core.Path.{_≡_}
-use Prim.Native.Nat.{ℕ, _≤_}
+use Prim.Native.Nat.{_≤_}
 use Rattle.exposure.specs.declared.Exposure.{Exposure}
 use Rattle.intake.specs.Intake.{airIntake, waterIntake, soilIntake, dustIntake, intakeRefusal}
 

@@ -6,7 +6,7 @@ use mathlib.Core.List.{List, [], _∷_}
 use Rattle.text.specs.Characters.{lineFeed, space}
 use Rattle.text.specs.Decimal.{decimal}
 use Rattle.text.specs.Figure.{figure}
-use Rattle.text.specs.Contracts.{Put}
+use Rattle.text.specs.Internal.{Put}
 use Rattle.text.proofs.Puts.{put-then}
 use Rattle.printout.specs.Printout.{flag, monthLine, refusedText, afterText, refusedLine}
 

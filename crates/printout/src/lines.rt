@@ -2,7 +2,7 @@
 ghost use mathlib.Core.Path.{_≡_};
 ghost use Prim.Native.Nat.{_≤_};
 ghost use lib.ListN.{length};
-ghost use Rattle.text.specs.Contracts.{Put};
+ghost use Rattle.text.specs.Internal.{Put};
 ghost use Rattle.printout.specs.Printout.{flag, monthLine, refusedLine};
 
 // A blood figure over this is marked, thousandths of ug/dL.

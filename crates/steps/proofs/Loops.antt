@@ -1,6 +1,7 @@
 -- The loops over a day's steps and a month's days: what is ahead at the start, after a turn, and at the end.
 -- Assumes nothing.
 use mathlib.Core.Path.{_≡_, refl, sym, ap, _∙_}
+use mathlib.Core.Bool.{Bool, true, false}
 use mathlib.Core.List.{List, [], _∷_, _++_}
 use Prim.Native.Nat.{ℕ, suc, _+_, _-_, _*_, _≤_, _<_}
 use native.Mathlib.Nat.{sub-zero}
@@ -47,6 +48,17 @@ module _ (rates : State → Rates) where
   refusal-append a (u ∷ us) vs =
       let over = unless (leb (burden (a .lead) + u) burdenLimit) 22 in
       ap (orElse over) (refusal-append (next (rates a) a u) us vs) ∙ orElse-assoc over (stepsRefusal rates (next (rates a) a u) us) _
+
+  -- the only refusal of steps is 22
+  pub steps-not : (n : ℕ) → 0 < n → (n ≡ 22 → ⊥) → (a : State) (us : List ℕ) → stepsRefusal rates a us ≡ n → ⊥
+  unfolding stepsRefusal unless
+  steps-not n some h a [] e = omega arith
+  steps-not n some h a (u ∷ us) e =
+      one (leb (burden (a .lead) + u) burdenLimit) (steps-not n some h (next (rates a) a u) us) e
+    where
+      one : (t : Bool) {rest : ℕ} → (rest ≡ n → ⊥) → orElse (unless t 22) rest ≡ n → ⊥
+      one true k f = k f
+      one false k f = h (sym f)
 
   last-append : (a : State) (us vs : List ℕ) → lastFrom rates a (us ++ vs) ≡ lastFrom rates (lastFrom rates a us) vs
   unfolding lastFrom

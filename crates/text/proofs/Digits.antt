@@ -9,7 +9,7 @@ use native.Mathlib.Omega.{arith}
 use borrow.Author.Tests.{lt-ltb, le-ltb}
 use lib.ListN.{length, length-append}
 use Rattle.text.specs.Decimal.{digit, digitsWithin, decimal}
-use Rattle.text.specs.Contracts.{Put}
+use Rattle.text.specs.Internal.{Put}
 use Rattle.text.proofs.Puts.{put-then, put-as}
 
 -- a number below 10 is one digit; a larger one is the digits of its tenth and the last one

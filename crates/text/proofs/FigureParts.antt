@@ -6,7 +6,7 @@ use mathlib.Core.List.{List, [], _∷_}
 use Rattle.text.specs.Characters.{point}
 use Rattle.text.specs.Decimal.{digit, decimal}
 use Rattle.text.specs.Figure.{tenths, figure}
-use Rattle.text.specs.Contracts.{Put}
+use Rattle.text.specs.Internal.{Put}
 use Rattle.text.proofs.Puts.{put-then}
 
 module _ {l₀ l₁ l₂ l₃ : List ℕ} {e₀ e₁ e₂ e₃ : ℕ} (blood : ℕ) where

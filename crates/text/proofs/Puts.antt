@@ -8,7 +8,7 @@ use native.Mathlib.Numerals.{add-one}
 use native.Mathlib.Omega.{arith}
 use lib.ListN.{length, take, drop, set, getD, length-append, length-set}
 use lib.Seq.{take-all, take-suc, sets, sets-eq}
-use Rattle.text.specs.Contracts.{Put}
+use Rattle.text.specs.Internal.{Put}
 
 -- a text stored past another: the two joined, stored at once
 sets-then : (x y l : List ℕ) (i : ℕ) → sets (sets l i x) (i + length x) y ≡ sets l i (x ++ y)

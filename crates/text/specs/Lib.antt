@@ -2,5 +2,5 @@
 pub mod Characters
 pub mod Decimal
 pub mod Figure
-pub mod Contracts
+pub mod Internal
 pub mod Laws

@@ -5,7 +5,7 @@ ghost use mathlib.Core.List.{[], _∷_};
 ghost use lib.ListN.{length};
 ghost use Rattle.text.specs.Decimal.{digit, decimal};
 ghost use Rattle.text.specs.Figure.{tenths, figure};
-ghost use Rattle.text.specs.Contracts.{Put};
+ghost use Rattle.text.specs.Internal.{Put};
 
 pub fn put_byte(target: &mut [u8], place: usize, byte: u8) -> usize
     requires { ⌜ place < length (now target) ⌝ }

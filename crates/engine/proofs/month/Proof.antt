@@ -2,8 +2,9 @@
 -- Assumes nothing.
 use mathlib.Core.Path.{sym, _∙_}
 use borrow.Author.Needs.{needs}
-use Rattle.engine.proofs.Accepted.{read-decoded, read-long}
-use Rattle.engine.proofs.Calls.{month-files-refused, month-files-read}
+use Rattle.steps.specs.Steps.{stepsADay}
+use Rattle.engine.proofs.FilesDecoded.{files-read-decoded, files-long}
+use Rattle.engine.proofs.CallAnswers.{month-files-refused, month-files-read}
 use Rattle.engine.proofs.month.Statement.{statement}
 use Rattle.engine.proofs.month.Tie as tie
 
@@ -14,20 +15,20 @@ refused-month-requires : tie.Need-refused-month-requires
 refused-month-requires c κs = search needs
 
 returns : tie.Need-returns
-returns c = c .refused-month .ensures ∙ month-files-refused (c .before .before .read-files .ensures) 6 _ (c .before .if1 .taken)
+returns c = c .refused-month .ensures ∙ month-files-refused (c .before .before .read-files .ensures) stepsADay _ (c .before .if1 .taken)
 
 slice-aggregate-child-month : tie.Need-slice-aggregate-child-month
-slice-aggregate-child-month c = sym (read-long (c .before .before .before .read-files .ensures) (c .before .before .if1 .left))
+slice-aggregate-child-month c = sym (files-long (c .before .before .before .read-files .ensures) (c .before .before .if1 .left))
 
 child-month-requires : tie.Need-child-month-requires
 child-month-requires c κs =
     let read = c .before .before .before .read-files .ensures in
     let passed = c .before .before .if1 .left in
-    (read-long read passed, read-decoded read passed)
+    (files-long read passed, files-read-decoded read passed)
 
 returns-2 : tie.Need-returns-2
 returns-2 c =
-    c .child-month .ensures ∙ month-files-read (c .before .before .before .before .read-files .ensures) 6 _ (c .before .before .before .if1 .left)
+    c .child-month .ensures ∙ month-files-read (c .before .before .before .before .read-files .ensures) stepsADay _ (c .before .before .before .if1 .left)
 
 pub month-spec : {M : Type 1} → statement M
 month-spec =

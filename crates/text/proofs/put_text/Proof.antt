@@ -5,7 +5,7 @@ use native.Mathlib.Omega.{arith}
 use borrow.Author.Needs.{needs}
 use denote.Ref.{now}
 use lib.ListN.{length, take}
-use Rattle.text.specs.Contracts.{Put}
+use Rattle.text.specs.Internal.{Put}
 use Rattle.text.proofs.Puts.{text-none, text-next, text-whole}
 use Rattle.text.proofs.put_text.Statement.{statement}
 use Rattle.text.proofs.put_text.Tie as tie

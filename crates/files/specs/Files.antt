@@ -8,7 +8,8 @@ use lib.Dec.{eqb}
 use Rattle.numbers.specs.Choice.{unless, firstOf}
 use Rattle.site.specs.declared.Scenario.{Scenario}
 use Rattle.site.specs.Site.{siteRefusal, readSite}
-use Rattle.book.specs.Book.{bookRefusal, bookTable}
+use Rattle.block.specs.Block.{blockBytes}
+use Rattle.book.specs.Book.{bookBytes, bookRefusal, bookTable}
 
 -- the files of a call, as bytes
 pub record Files : Type 0 where
@@ -20,13 +21,23 @@ filesOf site book = record { site = site; book = book }
 
 -- 1: a wrong length, of the site file or of the book
 abbrev pub lengthRefusal : Files → ℕ
-lengthRefusal f = unless (eqb (length (f .site)) 512 && eqb (length (f .book)) 8704) 1
+lengthRefusal f = unless (eqb (length (f .site)) blockBytes && eqb (length (f .book)) bookBytes) 1
 
--- why files are refused: 1, the site file's 3 to 7, then each book block in turn 3 to 6 and 8
+-- why files are refused before the book: 1, the site file's 3 to 7
+abbrev pub beforeBookRefusals : Files → List ℕ
+beforeBookRefusals f = lengthRefusal f ∷ siteRefusal (f .site) ∷ []
+
+unfoldable pub beforeBookRefusal : Files → ℕ
+beforeBookRefusal f = firstOf (beforeBookRefusals f)
+
+-- why files are refused: before the book, then each of its blocks in turn 3 to 6 and 8
+abbrev pub filesRefusals : Files → List ℕ
+filesRefusals f = beforeBookRefusal f ∷ bookRefusal (f .book) ∷ []
+
 unfoldable pub filesRefusal : Files → ℕ
-filesRefusal f = firstOf (lengthRefusal f ∷ siteRefusal (f .site) ∷ bookRefusal (f .book) ∷ [])
+filesRefusal f = firstOf (filesRefusals f)
 
--- what the files say: the scenario, and the table of the book's rows
+-- the scenario of the site file, and the table of the book's rows
 abbrev pub scenarioIn : Files → Scenario
 scenarioIn f = readSite (f .site) .scenario
 

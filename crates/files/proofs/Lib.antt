@@ -1,0 +1,2 @@
+pub mod FilesPassed
+pub mod ReadAnswers
