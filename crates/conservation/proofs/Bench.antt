@@ -6,16 +6,16 @@ use Rattle.numbers.specs.Sums.{sumTo}
 use Rattle.block.specs.Block.{wordAt, checkOf}
 use Rattle.block.specs.Writer.{le16, layout, bodyOf}
 use Rattle.site.specs.Fields.{limits, withinLimits, fieldsFit}
-use Rattle.book.specs.Row.{volumesFit, weightsFit, returnsFit, ratesFit, rowFits}
+use Rattle.row.specs.Row.{volumesFit, weightsFit, returnsFit, ratesFit, rowFits}
 use Rattle.uptake.specs.Age.{ageOf}
-use Rattle.uptake.specs.Intake.{airIntake, mixedWater, waterIntake, soilIntake, dustConcentration, dustIntake, intakesOf}
+use Rattle.intake.specs.Intake.{airIntake, mixedWater, waterIntake, soilIntake, dustConcentration, dustIntake, intakesOf}
 use Rattle.uptake.specs.Uptake.{percentOf, saturationOf, absorbable, absorbableTotal, passiveUptake, activePart, activeUptake, mediumUptake}
-use Rattle.kinetics.specs.Share.{shareOf}
+use Rattle.steps.specs.Share.{shareOf}
 use Rattle.kinetics.specs.Step.{compartmentDivisor, returned, retained, inflow, divisor, solvedPlasma, newAmount, urineExit, compartmentExit, exits, newPlasma, nextLead}
-use Rattle.kinetics.specs.Birth.{birthBlood, birthOrgan, birthLead}
-use Rattle.kinetics.specs.Blood.{ecfVolume, plasmaPart, bloodOf}
-use Rattle.child.specs.Steps.{sharesFrom}
-use Rattle.engine.specs.Bench.{benchExposure, benchRates, benchRow, BenchFigures, WithinLimits}
+use Rattle.blood.specs.Birth.{birthBlood, birthOrgan, birthLead}
+use Rattle.blood.specs.Blood.{ecfVolume, plasmaPart, bloodOf}
+use Rattle.steps.specs.Steps.{sharesFrom}
+use Rattle.conservation.specs.Bench.{benchExposure, benchRates, benchRow, BenchFigures, WithinLimits}
 
 pub bench-figures : BenchFigures
 unfolding benchExposure benchRates benchRow sumTo wordAt checkOf le16 layout bodyOf sharesFrom

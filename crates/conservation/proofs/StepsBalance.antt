@@ -10,15 +10,15 @@ use lib.Dec.{leb}
 use Rattle.numbers.specs.Choice.{unless}
 use Rattle.numbers.specs.Lists.{totalOf}
 use Rattle.numbers.proofs.Refusals.{orElse-none, unless-none}
-use Rattle.book.specs.declared.Rates.{Rates}
-use Rattle.book.specs.Limits.{RateLimits}
+use Rattle.row.specs.declared.Rates.{Rates}
+use Rattle.row.specs.Limits.{RateLimits}
 use Rattle.kinetics.specs.declared.State.{State}
 use Rattle.kinetics.specs.Step.{Exits, burden, burdenLimit, urineLedger, faecesLedger, skinLedger, next}
 use Rattle.kinetics.proofs.StepLaws.{step-law}
-use Rattle.child.specs.Steps.{Step, exitsOf, leaves, stepsFrom, lastFrom, stepsRefusal}
-use Rattle.engine.specs.Conservation.{Chain}
-use Rattle.child.proofs.Shares.{sumOf}
-use Rattle.child.proofs.Loops.{step-conserves}
+use Rattle.steps.specs.Steps.{Step, exitsOf, leaves, stepsFrom, lastFrom, stepsRefusal}
+use Rattle.conservation.specs.Conservation.{Chain}
+use Rattle.steps.proofs.Shares.{sumOf}
+use Rattle.steps.proofs.Loops.{step-conserves}
 
 -- what left by one of the exits, over steps
 abbrev pub leftIn : (Exits → ℕ) → List Step → ℕ
@@ -71,13 +71,13 @@ module _ (rates : State → Rates) where
     steps-balance a [] = no-step-balanced a
     steps-balance a (u ∷ us) = step-before-balanced (rates a) a u (limits a) _ _ _ (steps-balance (next (rates a) a u) us)
 
-    -- where no step is refused, the burden stays within its limit
+    -- if no step is refused, the burden stays within its limit
     pub steps-within :
         (a : State) (us : List ℕ) → stepsRefusal rates a us ≡ 0 → burden (a .lead) ≤ burdenLimit → burden (lastFrom rates a us .lead) ≤ burdenLimit
     unfolding stepsRefusal lastFrom
     steps-within a [] r h = h
     steps-within a (u ∷ us) r h =
         let p = orElse-none (unless (leb (burden (a .lead) + u) burdenLimit) 22) _ r in
-        let room = leb-true (burden (a .lead) + u) burdenLimit (unless-none _ 21 (p .0)) in
+        let room = leb-true (burden (a .lead) + u) burdenLimit (unless-none _ 22 (omega arith) (p .0)) in
         let c = step-conserves (rates a) a u (limits a) in
         steps-within (next (rates a) a u) us (p .1) (omega arith)

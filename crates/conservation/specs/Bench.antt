@@ -9,18 +9,19 @@ use Rattle.block.specs.Block.{checkOf}
 use Rattle.block.specs.Writer.{bodyOf}
 use Rattle.site.specs.declared.DustSource.the-variants.{MultipleSource}
 use Rattle.site.specs.declared.WaterSource.the-variants.{ThreeSources}
-use Rattle.site.specs.declared.Exposure.{Exposure}
+use Rattle.exposure.specs.declared.Exposure.{Exposure}
 use Rattle.site.specs.Fields.{fieldsFit}
-use Rattle.book.specs.declared.Rates.{Rates}
-use Rattle.book.specs.declared.Row.{Row}
-use Rattle.book.specs.Row.{unit, rowFits}
+use Rattle.site.specs.Site.{siteForm}
+use Rattle.row.specs.declared.Rates.{Rates}
+use Rattle.row.specs.declared.Row.{Row}
+use Rattle.row.specs.Row.{unit, rowFits}
 use Rattle.uptake.specs.Age.{ageOf}
-use Rattle.uptake.specs.Intake.{airIntake, waterIntake, soilIntake, dustConcentration, dustIntake, dietMedium}
+use Rattle.intake.specs.Intake.{airIntake, waterIntake, soilIntake, dustConcentration, dustIntake, dietMedium}
 use Rattle.uptake.specs.Uptake.{saturationOf, absorbable, absorbableTotal, mediumUptake}
 use Rattle.kinetics.specs.Step.{plasma, amount, solvedPlasma, exits, nextLead}
-use Rattle.kinetics.specs.Birth.{birthLead}
-use Rattle.kinetics.specs.Blood.{bloodOf}
-use Rattle.child.specs.Steps.{dayShares}
+use Rattle.blood.specs.Birth.{birthLead}
+use Rattle.blood.specs.Blood.{bloodOf}
+use Rattle.steps.specs.Steps.{stepsADay, dayShares}
 
 -- an exposure with the figures of the first six rows; of the eaten media the diet alone is absorbed, and wholly
 unfoldable pub benchExposure : Exposure
@@ -110,7 +111,7 @@ pub record BenchFigures : Type 0 where
       ∷ []
       ≡ 2_700_000 ∷ 2_700_000 ∷ 24_300_000 ∷ 2_484_000 ∷ []
   -- T = 10
-  pub shares : dayShares 6 10 ≡ 1 ∷ 2 ∷ 2 ∷ 1 ∷ 2 ∷ 2 ∷ []
+  pub shares : dayShares stepsADay 10 ≡ 1 ∷ 2 ∷ 2 ∷ 1 ∷ 2 ∷ 2 ∷ []
   -- P 9, au = D, a1 = 1, all else 0: p, urine, new P
   pub step :
       solvedPlasma benchRates benchLead 0 ∷ exits benchRates benchLead 0 .urine ∷ plasma (nextLead benchRates benchLead 0) ∷ []
@@ -120,7 +121,7 @@ pub record BenchFigures : Type 0 where
   -- M1 25,000,000, P 1,000,000, VP 1,000, VB 2,000
   pub blood : bloodOf benchRow (1_000_000 ∷ 25_000_000 ∷ 0 ∷ 0 ∷ 0 ∷ 0 ∷ 0 ∷ []) ≡ 12_703
   -- block of zeros, edition 1
-  pub check : checkOf (bodyOf 0 1 []) ≡ 2
+  pub check : checkOf (bodyOf siteForm []) ≡ 2
   -- months 12, 13, 84
   pub ages : map ageOf (12 ∷ 13 ∷ 84 ∷ []) ≡ 0 ∷ 1 ∷ 6 ∷ []
 

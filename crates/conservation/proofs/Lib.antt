@@ -1,0 +1,6 @@
+pub mod Bench
+pub mod Demand3
+pub mod RunIsCalls
+pub mod StateAlone
+pub mod StepsBalance
+pub mod WholeMonths
