@@ -5,8 +5,6 @@ use mathlib.Core.Path.{_≡_, refl, ap, _∙_}
 use mathlib.Core.List.{List, [], _∷_, map}
 use native.Mathlib.Omega.{arith}
 use lib.ListN.{length, getD, replicate}
-use lib.Dec.{eqb}
-use Rattle.numbers.specs.Choice.{unless}
 use Rattle.numbers.proofs.Refusals.{firstOf-none}
 use Rattle.kinetics.specs.declared.State.{State}
 use Rattle.child.specs.declared.MonthAnswer.{MonthAnswer}

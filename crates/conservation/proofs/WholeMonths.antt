@@ -2,26 +2,23 @@
 -- Assumes nothing.
 use Prim.Native.Nat.{ℕ, zero, suc, _*_, _≤_, _<_}
 use mathlib.Core.Path.{_≡_, refl, sym, _∙_}
-use mathlib.Core.List.{List, [], _∷_}
+use mathlib.Core.List.{List}
 use native.Mathlib.Omega.{arith}
 use borrow.Author.Tests.{leb-true}
 use lib.ListN.{length, getD}
 use Rattle.numbers.proofs.Refusals.{firstOf-none, unless-none}
 use Rattle.site.specs.Scenario.{motherOf}
 use Rattle.row.specs.declared.Rates.{Rates}
-use Rattle.row.specs.Row.{rowOf}
+use Rattle.row.specs.Row.{rowOf, lastMonth}
 use Rattle.row.specs.Limits.{RateLimits}
 use Rattle.uptake.specs.Age.{ageOf}
-use Rattle.intake.specs.Intake.{intakeRefusal}
 use Rattle.uptake.proofs.Laws.{age-law, day-law}
 use Rattle.kinetics.specs.declared.State.{State}
 use Rattle.kinetics.specs.Step.{burden, burdenLimit}
 use Rattle.blood.specs.Birth.{birthState}
 use Rattle.blood.proofs.Newborn.{birth-law}
-use Rattle.files.specs.Files.{Files, filesRefusal, scenarioIn, tableIn}
-use Rattle.row.specs.Row.{lastMonth}
-use Rattle.state.specs.State.{stateRefusal}
-use Rattle.steps.specs.Steps.{daysAMonth, stepsFrom, lastFrom, stepsRefusal}
+use Rattle.files.specs.Files.{Files, scenarioIn, tableIn}
+use Rattle.steps.specs.Steps.{daysAMonth, stepsFrom, lastFrom}
 use Rattle.engine.specs.Birth.{birthRefusals, birthRefusal, birthOf}
 use Rattle.child.specs.Birth.{newborn, newbornRefusal}
 use Rattle.engine.specs.Month.{monthRefusals, monthRefusal, monthOf}

@@ -7,11 +7,12 @@ ghost use lib.ListN.{length};
 ghost use Rattle.block.specs.Writer.{writerRefusal, written};
 ghost use Rattle.site.specs.Site.{readSite};
 ghost use Rattle.book.specs.Book.{bookRefusal, bookTable};
-ghost use Rattle.child.specs.Steps.{stepsADay};
+ghost use Rattle.steps.specs.Steps.{stepsADay};
 ghost use Rattle.engine.specs.Birth.{birthOf};
 ghost use Rattle.engine.specs.Month.{monthOf};
-ghost use Rattle.engine.specs.Run.{runOf, runAnswer, runList};
-ghost use Rattle.engine.specs.Files.{filesOf};
+ghost use Rattle.child.specs.Months.{runAnswer, runList};
+ghost use Rattle.engine.specs.Run.{runOf};
+ghost use Rattle.files.specs.Files.{filesOf};
 ghost use Rattle.jurengate.specs.Words.{wordsOf, stateOf};
 
 // Words of a state.

@@ -7,7 +7,7 @@ use Rattle.text.specs.Decimal.{digitsWithin}
 use Rattle.text.specs.Figure.{figure}
 use Rattle.printout.specs.Printout.{monthLine, refusedLine}
 use Rattle.printout.specs.Bench.{Bench}
-use Rattle.printout.proofs.Length.{book-printed}
+use Rattle.printout.proofs.FirstBytes.{book-printed}
 
 pub bench : Bench
 unfolding digitsWithin figure monthLine refusedLine

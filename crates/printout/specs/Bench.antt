@@ -3,7 +3,7 @@
 use mathlib.Core.Path.{_≡_}
 use mathlib.Core.List.{List, [], _∷_}
 use Prim.Native.Nat.{ℕ}
-use Rattle.engine.specs.Files.{filesOf}
+use Rattle.files.specs.Files.{filesOf}
 use Rattle.printout.specs.Printout.{monthLine, printout}
 
 pub record Bench : Type 0 where

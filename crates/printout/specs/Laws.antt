@@ -1,11 +1,13 @@
 -- The laws of the printout.
 -- Assumes nothing.
 use mathlib.Core.Path.{_≡_}
-use Prim.Native.Nat.{ℕ, suc}
+use Prim.Native.Nat.{ℕ, suc, _+_}
 use mathlib.Core.List.{List}
 use lib.ListN.{take}
-use Rattle.engine.specs.Files.{Files, filesOf}
-use Rattle.child.specs.State.{lastMonth}
+use Rattle.block.specs.Block.{blockBytes}
+use Rattle.book.specs.Book.{bookBytes}
+use Rattle.files.specs.Files.{Files, filesOf}
+use Rattle.row.specs.Row.{lastMonth}
 use Rattle.printout.specs.Printout.{printout}
 use Rattle.printout.specs.Lines.{preparedOf, lineAt, linesFrom}
 
@@ -15,4 +17,4 @@ LinesLaw = (f : Files) → printout f ≡ linesFrom (lineAt (preparedOf f)) 0 (s
 
 -- a longer file is refused by its length: one byte past each format is enough to read
 abbrev pub FirstBytesLaw : Type 0
-FirstBytesLaw = (site book : List ℕ) → printout (filesOf (take 513 site) (take 8_705 book)) ≡ printout (filesOf site book)
+FirstBytesLaw = (site book : List ℕ) → printout (filesOf (take (blockBytes + 1) site) (take (bookBytes + 1) book)) ≡ printout (filesOf site book)

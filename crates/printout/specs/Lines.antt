@@ -5,16 +5,17 @@ use mathlib.Core.Bool.{cond}
 use mathlib.Core.List.{List, [], _++_}
 use lib.ListN.{length, getD, replicate}
 use lib.Dec.{ltb, eqb}
-use Rattle.engine.specs.Files.{Files}
-use Rattle.child.specs.State.{lastMonth}
-use Rattle.child.specs.Steps.{stepsADay}
-use Rattle.engine.specs.Run.{Ran, runOf, runList}
+use Rattle.files.specs.Files.{Files}
+use Rattle.row.specs.Row.{lastMonth}
+use Rattle.steps.specs.Steps.{stepsADay}
+use Rattle.child.specs.Months.{MonthsRun, runList}
+use Rattle.engine.specs.Run.{runOf}
 use Rattle.printout.specs.declared.Prepared.{Prepared}
 use Rattle.printout.specs.Printout.{monthLine, lastLine}
 
 -- what is kept of a run: its refusal, the months done, and 84 places that begin with their figures
-abbrev pub keptOf : Ran → Prepared
-keptOf r = record { refusal = r .refusal; months = length (r .bloods); blood = runList r (replicate lastMonth 0) }
+abbrev pub keptOf : MonthsRun → Prepared
+keptOf r = record { refusal = r .refusal; months = length (r .figures); blood = runList r (replicate lastMonth 0) }
 
 -- what is kept of a run of two files, at six steps a day
 unfoldable pub preparedOf : Files → Prepared

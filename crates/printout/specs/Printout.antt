@@ -1,14 +1,16 @@
 -- The bytes that leadline prints, as a function of the bytes of its two files (document 01, "Bench figures", last paragraph).
 -- Assumes nothing.
-use Prim.Native.Nat.{ℕ, zero, suc}
+use Prim.Native.Nat.{ℕ, suc}
 use mathlib.Core.Bool.{cond}
 use mathlib.Core.List.{List, [], _∷_, _++_}
 use lib.ListN.{length}
 use lib.Dec.{ltb}
-use Rattle.engine.specs.Files.{Files}
-use Rattle.child.specs.State.{lastMonth}
-use Rattle.child.specs.Steps.{stepsADay}
-use Rattle.engine.specs.Run.{Ran, runOf}
+use Rattle.numbers.specs.Choice.{answerBy}
+use Rattle.files.specs.Files.{Files}
+use Rattle.row.specs.Row.{lastMonth}
+use Rattle.steps.specs.Steps.{stepsADay}
+use Rattle.child.specs.Months.{MonthsRun}
+use Rattle.engine.specs.Run.{runOf}
 use Rattle.text.specs.Characters.{lineFeed, space}
 use Rattle.text.specs.Decimal.{decimal}
 use Rattle.text.specs.Figure.{figure}
@@ -24,7 +26,7 @@ monthLine month blood = decimal month ++ (space ∷ (figure blood ++ (space ∷ 
 -- the lines of the months after m
 unfoldable pub monthLines : ℕ → List ℕ → List ℕ
 monthLines m [] = []
-monthLines m (blood ∷ bloods) = monthLine (suc m) blood ++ monthLines (suc m) bloods
+monthLines m (blood ∷ figures) = monthLine (suc m) blood ++ monthLines (suc m) figures
 
 -- `refused ` and ` after `
 abbrev pub refusedText : List ℕ
@@ -39,12 +41,11 @@ refusedLine refusal months = refusedText ++ (decimal refusal ++ (afterText ++ (d
 
 -- how a printout ends: a run that was not refused has no last line
 abbrev pub lastLine : ℕ → ℕ → List ℕ
-lastLine zero months = []
-lastLine (suc r) months = refusedLine (suc r) months
+lastLine r months = answerBy r [] (λ n. refusedLine n months)
 
 -- what is printed of a run
-unfoldable pub printoutOf : Ran → List ℕ
-printoutOf r = monthLines 0 (r .bloods) ++ lastLine (r .refusal) (length (r .bloods))
+unfoldable pub printoutOf : MonthsRun → List ℕ
+printoutOf r = monthLines 0 (r .figures) ++ lastLine (r .refusal) (length (r .figures))
 
 -- what is printed of two files, at six steps a day
 abbrev pub printout : Files → List ℕ

@@ -2,7 +2,7 @@
 ghost use mathlib.Core.Path.{_≡_};
 ghost use mathlib.Core.List.{_++_};
 ghost use lib.ListN.{length, drop, getD};
-ghost use Rattle.engine.specs.Files.{filesOf};
+ghost use Rattle.files.specs.Files.{filesOf};
 ghost use Rattle.printout.specs.Lines.{preparedOf, lineAt};
 
 mod lines; // lines.rt: a month's line and the last line

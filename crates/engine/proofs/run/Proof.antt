@@ -39,9 +39,10 @@ months-requires c κs =
     let started = c .before .before .before .before in
     let s = started .before in
     let f = files (begin-of s) in
-    let l = now (begin-of s .args .blood) in
-    (start-long f l (s .start .ensures) (started .if1 .left),
-    (start-decoded f l (s .start .ensures) (started .if1 .left), places-are-84 f l (s .start .ensures) (started .if1 .left)))
+    let l = now (begin-of s .args .blood) in (
+      start-long f l (s .start .ensures) (started .if1 .left),
+      (start-decoded f l (s .start .ensures) (started .if1 .left), places-are-84 f l (s .start .ensures) (started .if1 .left)),
+    )
 
 same-length : tie.Need-same-length
 same-length c = search needs

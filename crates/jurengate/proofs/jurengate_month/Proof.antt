@@ -5,7 +5,7 @@ use denote.Ref.{now}
 use Rattle.kinetics.specs.declared.State.{State}
 use Rattle.child.specs.declared.MonthAnswer.{MonthAnswer}
 use Rattle.engine.specs.Month.{monthOf}
-use Rattle.engine.specs.Files.{filesOf}
+use Rattle.files.specs.Files.{filesOf}
 use Rattle.jurengate.specs.Words.{wordsOf}
 use borrow.Author.Needs.{needs}
 use Rattle.jurengate.proofs.jurengate_month.Statement.{statement}

@@ -1,7 +1,7 @@
 -- `jurengate::jurengate_run` meets its contract: what `engine::run` answers and leaves in the list.
 -- Assumes nothing.
 use mathlib.Core.Path.{ap, _∙_}
-use Rattle.engine.specs.declared.RunAnswer.{RunAnswer}
+use Rattle.child.specs.declared.RunAnswer.{RunAnswer}
 use Rattle.jurengate.specs.Words.{wordsOf}
 use borrow.Author.Needs.{needs}
 use Rattle.jurengate.proofs.jurengate_run.Statement.{statement}

@@ -4,6 +4,7 @@ use mathlib.Core.Path.{_≡_, sym}
 use native.Mathlib.Omega.{arith}
 use lib.ListN.{length, List·getD-eq-default}
 use borrow.Author.Needs.{needs}
+use Rattle.row.specs.Row.{lastMonth}
 use Rattle.printout.proofs.figure_at.Statement.{statement}
 use Rattle.printout.proofs.figure_at.Tie as tie
 
@@ -19,7 +20,7 @@ returns c = search needs
 returns-2 : tie.Need-returns-2
 returns-2 c =
     let blood = c .before .before .args .run .blood in
-    let long : length blood ≡ 84 = search needs in
+    let long : length blood ≡ lastMonth = search needs in
     sym (List·getD-eq-default blood 0 (omega arith))
 
 pub figure-at-spec : {M : Type 1} → statement M

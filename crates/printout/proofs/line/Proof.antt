@@ -3,7 +3,7 @@
 use borrow.Author.Needs.{needs}
 use native.Mathlib.Omega.{arith}
 use Rattle.text.proofs.Puts.{put-line, no-line}
-use Rattle.printout.proofs.Whole.{line-month, line-refused, line-past, line-none}
+use Rattle.printout.proofs.LinesAreWhole.{line-month, line-refused, line-past, line-none}
 use Rattle.printout.proofs.line.Statement.{statement}
 use Rattle.printout.proofs.line.Tie as tie
 

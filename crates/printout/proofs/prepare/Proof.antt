@@ -1,8 +1,8 @@
 -- `printout::prepare` meets its contract: what it keeps of the run is what the run answers and writes.
 -- Assumes nothing.
 use denote.Ref.{now}
-use Rattle.engine.specs.Files.{filesOf}
-use Rattle.printout.proofs.Kept.{kept-is}
+use Rattle.files.specs.Files.{filesOf}
+use Rattle.printout.proofs.MonthsAtMost.{kept-is}
 use borrow.Author.Needs.{needs}
 use Rattle.printout.proofs.prepare.Statement.{statement}
 use Rattle.printout.proofs.prepare.Tie as tie

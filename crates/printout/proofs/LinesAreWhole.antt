@@ -8,16 +8,19 @@ use native.Mathlib.Numerals.{add-one}
 use native.Mathlib.Omega.{arith}
 use borrow.Author.Tests.{lt-ltb, le-ltb, eq-eqb, ne-eqb}
 use lib.ListN.{length, getD, drop, replicate, List·getD-append}
-use Rattle.engine.specs.Run.{Ran, runOf}
+use Rattle.numbers.proofs.Refusals.{answer-refused}
+use Rattle.row.specs.Row.{lastMonth}
+use Rattle.steps.specs.Steps.{stepsADay}
+use Rattle.child.specs.Months.{MonthsRun}
+use Rattle.engine.specs.Run.{runOf}
 use Rattle.printout.specs.declared.Prepared.{Prepared}
 use Rattle.printout.specs.Printout.{monthLine, monthLines, lastLine, refusedLine, printoutOf}
 use Rattle.printout.specs.Lines.{keptOf, preparedOf, lineAt, linesFrom}
 use Rattle.printout.specs.Laws.{LinesLaw}
-use Rattle.printout.proofs.Kept.{run-at-most}
+use Rattle.printout.proofs.MonthsAtMost.{run-at-most}
 
 last-refused : (r m : ℕ) → (r ≡ 0 → ⊥) → lastLine r m ≡ refusedLine r m
-last-refused zero m h = absurd (h refl)
-last-refused (suc r) m h = refl
+last-refused r m h = answer-refused [] (λ n. refusedLine n m) r h
 
 -- line k by its place
 module _ (p : Prepared) (k : ℕ) where
@@ -66,25 +69,25 @@ lines-months line (b ∷ bs) m j h =
     rw (more, far) (ap₂ _++_ first rest ∙ sym (append-assoc (monthLine (suc m) b) (monthLines (suc m) bs) (linesFrom line (suc m + length bs) j)))
 
 -- a month's line of what is kept of a run
-line-kept : (r : Ran) (k : ℕ) → k < length (r .bloods) → lineAt (keptOf r) k ≡ monthLine (suc k) (getD (r .bloods) k 0)
+line-kept : (r : MonthsRun) (k : ℕ) → k < length (r .figures) → lineAt (keptOf r) k ≡ monthLine (suc k) (getD (r .figures) k 0)
 line-kept r k h =
     line-done (keptOf r) k h
-    ∙ ap (monthLine (suc k)) (List·getD-append (r .bloods) (drop (length (r .bloods)) (replicate 84 0)) 0 k h)
+    ∙ ap (monthLine (suc k)) (List·getD-append (r .figures) (drop (length (r .figures)) (replicate lastMonth 0)) 0 k h)
 
 -- the lines of a run of at most 84 months are what is printed of it
-lines-whole : (r : Ran) → length (r .bloods) ≤ 84 → printoutOf r ≡ linesFrom (lineAt (keptOf r)) 0 85
+lines-whole : (r : MonthsRun) → length (r .figures) ≤ lastMonth → printoutOf r ≡ linesFrom (lineAt (keptOf r)) 0 (suc lastMonth)
 unfolding printoutOf linesFrom
 lines-whole r h =
     let p = keptOf r in
-    let done = length (r .bloods) in
-    let left = 84 - done in
-    let split : done + suc left ≡ 85 = omega arith in
-    let months : linesFrom (lineAt p) 0 (done + suc left) ≡ monthLines 0 (r .bloods) ++ linesFrom (lineAt p) done (suc left) =
-    rw zero-add at (lines-months (lineAt p) (r .bloods) 0 (suc left) (λ k l. rw zero-add (line-kept r k l))) in
+    let done = length (r .figures) in
+    let left = lastMonth - done in
+    let split : done + suc left ≡ suc lastMonth = omega arith in
+    let months : linesFrom (lineAt p) 0 (done + suc left) ≡ monthLines 0 (r .figures) ++ linesFrom (lineAt p) done (suc left) =
+    rw zero-add at (lines-months (lineAt p) (r .figures) 0 (suc left) (λ k l. rw zero-add (line-kept r k l))) in
     let end : linesFrom (lineAt p) done (suc left) ≡ lastLine (r .refusal) done =
     ap₂ _++_ (line-last p done refl) (lines-past p (suc done) left (omega arith)) ∙ append-nil (lastLine (r .refusal) done) in
-    ap (λ (l : List ℕ). monthLines 0 (r .bloods) ++ l) (sym end) ∙ sym months ∙ ap (linesFrom (lineAt p) 0) split
+    ap (λ (l : List ℕ). monthLines 0 (r .figures) ++ l) (sym end) ∙ sym months ∙ ap (linesFrom (lineAt p) 0) split
 
 pub lines-law : LinesLaw
 unfolding preparedOf
-lines-law f = lines-whole (runOf 6 f 84) (run-at-most 6 f 84)
+lines-law f = lines-whole (runOf stepsADay f lastMonth) (run-at-most stepsADay f lastMonth)
