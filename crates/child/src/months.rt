@@ -1,6 +1,7 @@
 // The months of a run.
 use super::RunAnswer;
 use kinetics::State;
+use row::LAST_MONTH;
 use site::Scenario;
 ghost use mathlib.Core.Path.{_≡_};
 ghost use lib.ListN.{length};
@@ -10,7 +11,8 @@ ghost use Rattle.steps.specs.Steps.{stepsADay};
 ghost use Rattle.child.specs.Months.{runAnswer, runList};
 ghost use Rattle.child.specs.Internal.{Decoded, childRun};
 
-pub const MONTHS: usize = 84;
+// Months of a whole run.
+pub const MONTHS: usize = LAST_MONTH;
 
 // 84 months from a state, up to the first that is refused; the figure of each month done is written.
 pub fn months(state: State, scenario: Scenario, table: &[u32], blood: &mut [u32]) -> RunAnswer

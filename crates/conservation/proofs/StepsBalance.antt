@@ -43,7 +43,7 @@ module _ (r : Rates) (a : State) (u : ℕ) (limits : RateLimits r) where
       let c = step-conserves r a u limits in
       record { lead = omega arith; urine = omega arith; faeces = omega arith; skin = omega arith }
 
--- a chain tells its last state by the compartments and the ledgers alone
+-- a chain ends at any state with the last compartments and ledgers
 pub chain-to : (a b c : State) (xs : List Step) → b .lead ≡ c .lead → b .ledgers ≡ c .ledgers → Chain a xs b → Chain a xs c
 chain-to a b c [] p q h = (h .0 ∙ p, h .1 ∙ q)
 chain-to a b c (x ∷ xs) p q h = (h .0, (h .1 .0, chain-to (leaves x) b c xs p q (h .1 .1)))

@@ -1,4 +1,4 @@
--- Words and states say the same.
+-- The words of a state and the state of words undo each other.
 -- Assumes nothing.
 use mathlib.Core.Path.{ap₂}
 use mathlib.Core.List.{List}

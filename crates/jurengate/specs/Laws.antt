@@ -1,4 +1,4 @@
--- Words and states say the same: a state handed back as it was leaves the words as they were.
+-- The words of a state and the state of words undo each other: a state handed back as it was leaves the words as they were.
 -- Assumes nothing.
 use Prim.Native.Nat.{ℕ}
 use mathlib.Core.Path.{_≡_}
@@ -7,10 +7,10 @@ use lib.ListN.{length}
 use Rattle.kinetics.specs.declared.State.{State}
 use Rattle.jurengate.specs.Words.{wordsOf, stateOf}
 
--- eleven words are the words of the state that they say
+-- eleven words are the words of their state
 abbrev pub WordsLaw : Type 0
 WordsLaw = (words : List ℕ) → length words ≡ 11 → wordsOf (stateOf words) ≡ words
 
--- a state of seven compartments and three ledgers is the one that its words say
+-- a state of seven compartments and three ledgers is the state of its words
 abbrev pub StateWordsLaw : Type 0
 StateWordsLaw = (a : State) → length (a .lead) ≡ 7 → length (a .ledgers) ≡ 3 → stateOf (wordsOf a) ≡ a

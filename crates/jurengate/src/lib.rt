@@ -39,7 +39,7 @@ fn words_of(state: State) -> [u64; WORDS]
     ]
 }
 
-// The state that words say.
+// The state of eleven words.
 fn state_of(words: [u64; WORDS]) -> State
     ensures { λ r. ⌜ r ≡ stateOf words ⌝ }
 {
@@ -58,7 +58,7 @@ fn state_of(words: [u64; WORDS]) -> State
     }
 }
 
-// Reads a site file: its refusal, and its fields, zeros where it is refused.
+// Reads a site file: its refusal, and its fields, zeros if it is refused.
 #[no_mangle]
 pub extern "C" fn jurengate_read_site(site: &[u8], fields: &mut [u32; FIELDS]) -> u32
     ensures { λ r. ⌜ r ≡ readSite (now (site .entry)) .refusal ⌝ }
@@ -71,7 +71,7 @@ pub extern "C" fn jurengate_read_site(site: &[u8], fields: &mut [u32; FIELDS]) -
     read.refusal
 }
 
-// Reads a rate book: its refusal, and its 85 rows of 23 numbers, zeros where it is refused.
+// Reads a rate book: its refusal, and its 85 rows of 23 numbers, zeros if it is refused.
 #[no_mangle]
 pub extern "C" fn jurengate_read_book(book: &[u8], table: &mut [u32; TABLE_NUMBERS]) -> u32
     ensures { λ r. ⌜ r ≡ bookRefusal (now (book .entry)) ⌝ }
@@ -91,7 +91,7 @@ pub extern "C" fn jurengate_write_block(body: &[u8], target: &mut [u8]) -> u32
     of_lengths
 }
 
-// Birth: the child at month 0, all zeros where it is refused.
+// Birth: the child at month 0, all zeros if it is refused.
 #[no_mangle]
 pub extern "C" fn jurengate_birth(site: &[u8], book: &[u8], state: &mut [u64; WORDS]) -> u32
     ensures { λ r. ⌜ r ≡ birthOf (filesOf (now (site .entry)) (now (book .entry))) .refusal ⌝ }
@@ -103,7 +103,7 @@ pub extern "C" fn jurengate_birth(site: &[u8], book: &[u8], state: &mut [u64; WO
     answer.refusal
 }
 
-// One month: the child a month later and its blood figure; where it is refused, the child as it was and 0.
+// One month: the child a month later and its blood figure; if it is refused, the child as it was and 0.
 #[no_mangle]
 pub extern "C" fn jurengate_month(
     site: &[u8],

@@ -1,4 +1,4 @@
--- Every number of a step fits 64 bits, and is what the definitions say.
+-- Every number of a step fits 64 bits, and is the number of the definitions.
 -- Assumes nothing.
 use mathlib.Core.Path.{_≡_, refl, ap, ap₂}
 use mathlib.Core.List.{List}

@@ -21,7 +21,7 @@ lessBack r i = unit + exit r i
 unfoldable pub netOut : Rates → ℕ
 netOut r = weighted 6 (compartmentDivisor r) (λ i. lessBack r i * out r i)
 
--- a × b / e is at most a, where b is at most e
+-- a × b / e is at most a if b is at most e
 pub part-le : {b e : ℕ} (a : ℕ) → b ≤ e → 0 < e → a * b / e ≤ a
 part-le {b} {e} a h pos = le-of-mul-le-mul-right (le-trans (div-mul-le-self (a * b) e) (mul-le-mul-left a h)) pos
 

@@ -24,7 +24,7 @@ fn read_file(path: &[u8], buffer: &mut [u8]) -> usize
     bytes
 }
 
-// Prints line k, and answers whether it was written; says on standard error why not.
+// Prints line k, and answers whether it was written; if not, standard error has the reason.
 fn print_line(run: Prepared, k: u32) -> bool {
     let mut line = [0u8; LINE_BYTES];
     let bytes = printout::line(run, k, &mut line);

@@ -42,7 +42,7 @@ module _ (site book : List ℕ) where
   site-printed h = length-printed (filesOf site book) (rw (ne-eqb (length site) blockBytes h))
 
   pub book-printed : (length book ≡ bookBytes → ⊥) → printout (filesOf site book) ≡ refusedLine 1 0
-  book-printed h = length-printed (filesOf site book) (rw (ne-eqb (length book) bookBytes h) (second-fails (eqb (length site) 512)))
+  book-printed h = length-printed (filesOf site book) (rw (ne-eqb (length book) bookBytes h) (second-fails (eqb (length site) blockBytes)))
 
 -- a file that has more than n bytes and more than the `most` read has more than n read
 read-long : (n most : ℕ) (l : List ℕ) → n < most → most < length l → length (take most l) ≡ n → ⊥

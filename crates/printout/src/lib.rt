@@ -1,4 +1,5 @@
 // What leadline prints, a line at a time, from the bytes of its two files. Reading files and writing bytes is left to the program.
+use child::months::MONTHS;
 ghost use mathlib.Core.Path.{_≡_};
 ghost use mathlib.Core.List.{_++_};
 ghost use lib.ListN.{length, drop, getD};
@@ -6,9 +7,6 @@ ghost use Rattle.files.specs.Files.{filesOf};
 ghost use Rattle.printout.specs.Lines.{preparedOf, lineAt};
 
 mod lines; // lines.rt: a month's line and the last line
-
-// Months of a whole run.
-const MONTHS: usize = 84;
 
 // Bytes that every line fits in: the longest has 15 bytes of text, two numbers of ten digits and a line feed.
 pub const LINE_BYTES: usize = 36;

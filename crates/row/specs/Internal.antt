@@ -1,4 +1,4 @@
--- For the contracts between the functions: what testing a row asks. No open call's contract needs it.
+-- For the contracts between the functions: what testing a row needs. No open call's contract needs it.
 -- Assumes nothing.
 use Prim.Native.Nat.{ℕ, _<_}
 use Rattle.row.specs.declared.Rates.{Rates}

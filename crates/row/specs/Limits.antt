@@ -6,7 +6,7 @@ use Rattle.row.specs.declared.Rates.{Rates}
 use Rattle.row.specs.declared.Row.{Row}
 use Rattle.row.specs.Row.{unit, out, back, exit}
 
--- the limits of the rates that a step asks; a1 may be 0
+-- the limits of the rates that a step needs; a1 may be 0
 pub record RateLimits (r : Rates) : Type 0 where
   pub total : sumTo 6 (out r) + r .urine ≤ 64 * unit
   pub each : (i : ℕ) → i < 6 → back r i + exit r i ≤ unit

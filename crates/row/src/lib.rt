@@ -6,8 +6,10 @@ pub mod table; // table.rt: a month's row of a table
 // D, the unit of the rates: a rate of D is 1 a step.
 pub const UNIT: u64 = 100_000_000;
 
-// Rows of a block of the book.
+// Rows of a block of the book, and the month of the last row.
 pub const BLOCK_ROWS: usize = 5;
+
+pub const LAST_MONTH: usize = 84;
 
 // A month's rates a step, in units of 1/D: from plasma to red cells, liver, kidney, other, trabecular and cortical bone, and to
 // urine; from these six back to plasma; from liver to faeces, and from other to skin, hair and nails.

@@ -2,7 +2,7 @@
 use super::places;
 ghost use mathlib.Core.Path.{_≡_};
 ghost use Prim.Native.Nat.{_≤_, _<_};
-ghost use Rattle.site.specs.Fields.{at, limits, withinLimits, fieldsFit};
+ghost use Rattle.site.specs.Fields.{singlesAt, fieldCount, at, limits, withinLimits, fieldsFit};
 
 // The most of each field.
 const AIR_MOST: u32 = 100_000_000; // pg/m3
@@ -37,7 +37,7 @@ const SHARES_MOST: u64 = 100; // hundredths, of the two water shares together
 
 // The limit of a field that each age has.
 fn group_limit(place: usize) -> u32
-    requires { ⌜ place < 70 ⌝ }
+    requires { ⌜ place < singlesAt ⌝ }
     ensures { λ r. ⌜ r ≡ at limits place ⌝ }
 {
     if place < places::HOURS_OUT {
@@ -69,7 +69,7 @@ fn group_limit(place: usize) -> u32
 
 // The limit of a field that stands singly.
 fn single_limit(place: usize) -> u32
-    requires { ⌜ (70 ≤ place) × (place < 94) ⌝ }
+    requires { ⌜ (singlesAt ≤ place) × (place < fieldCount) ⌝ }
     ensures { λ r. ⌜ r ≡ at limits place ⌝ }
 {
     if place < places::AIR_TO_DUST {
@@ -95,7 +95,7 @@ fn single_limit(place: usize) -> u32
 
 // The limit of the field at a place.
 fn limit_of(place: usize) -> u32
-    requires { ⌜ place < 94 ⌝ }
+    requires { ⌜ place < fieldCount ⌝ }
     ensures { λ r. ⌜ r ≡ at limits place ⌝ }
 {
     if place < places::INDOOR {

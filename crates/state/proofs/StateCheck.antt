@@ -16,7 +16,7 @@ use Rattle.numbers.specs.Choice.{unless}
 use Rattle.state.specs.State.{ledgerSum, monthLimit, isState, stateRefusal}
 use Rattle.state.proofs.SoundState.{sound-is-state}
 
--- where sums stop
+-- the cap of sums
 abbrev pub cap : ℕ
 cap = 0x4000_0000_0000_0000
 

@@ -1,5 +1,6 @@
 // The child's state: the all-zero one, and whether what is handed in is a state that a month can follow. Any 64-bit numbers may stand in it.
 use kinetics::State;
+use row::LAST_MONTH;
 ghost use mathlib.Core.Path.{_≡_};
 ghost use Prim.Native.Nat.{min};
 ghost use lib.ListN.{length, getD};
@@ -16,9 +17,9 @@ pub const BURDEN_TOO_LARGE: u32 = 22;
 
 pub const BURDEN_MOST: u64 = 50_000_000_000; // pg
 
-const LAST_MONTH: u64 = 84;
+const MONTH_MOST: u64 = LAST_MONTH as u64;
 
-const MONTH_MOST: u64 = 180_000_000_000; // pg, that a month can bring
+const UPTAKE_MOST: u64 = 180_000_000_000; // pg, that a month can bring
 
 // Sums stop here, far above every limit and far below what 64 bits hold.
 const CAP: u64 = 0x4000_0000_0000_0000;
@@ -49,7 +50,7 @@ pub fn state_refusal(state: State) -> u32
     ensures { λ r. ⌜ r ≡ stateRefusal state ⌝ }
 {
     let month = state.month;
-    if month > LAST_MONTH {
+    if month > MONTH_MOST {
         return NO_STATE;
     }
     let held = capped_sum(&state.lead);
@@ -57,10 +58,10 @@ pub fn state_refusal(state: State) -> u32
         return NO_STATE;
     }
     let left = capped_sum(&state.ledgers);
-    if held + left > BURDEN_MOST + month * MONTH_MOST {
+    if held + left > BURDEN_MOST + month * UPTAKE_MOST {
         return NO_STATE;
     }
-    if month == LAST_MONTH {
+    if month == MONTH_MOST {
         return LAST_MONTH_DONE;
     }
     0

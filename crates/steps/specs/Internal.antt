@@ -1,4 +1,4 @@
--- For the contracts between the functions: what steps ask, and where they end. No open call's contract needs it.
+-- For the contracts between the functions: what steps need, and their end. No open call's contract needs it.
 -- Assumes nothing.
 use mathlib.Core.Path.{_≡_}
 use Prim.Native.Nat.{ℕ, _^_, _+_, _≤_, _<_}

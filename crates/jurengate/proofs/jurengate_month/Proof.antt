@@ -1,9 +1,10 @@
--- `jurengate::jurengate_month` meets its contract: what `engine::month` answers for the state that the words say.
+-- `jurengate::jurengate_month` meets its contract: what `engine::month` answers for the state of the words.
 -- Assumes nothing.
 use mathlib.Core.Path.{ap, _∙_}
 use denote.Ref.{now}
 use Rattle.kinetics.specs.declared.State.{State}
 use Rattle.child.specs.declared.MonthAnswer.{MonthAnswer}
+use Rattle.steps.specs.Steps.{stepsADay}
 use Rattle.engine.specs.Month.{monthOf}
 use Rattle.files.specs.Files.{filesOf}
 use Rattle.jurengate.specs.Words.{wordsOf}
@@ -24,7 +25,7 @@ returns : tie.Need-returns
 returns c =
     let m = c .before .before in
     let a = m .before .before .before .before .before .args in
-    let e = m .month .ensures ∙ ap (λ (b : State). monthOf 6 b (filesOf (now (a .site)) (now (a .book)))) (m .before .state-of .ensures) in (
+    let e = m .month .ensures ∙ ap (λ (b : State). monthOf stepsADay b (filesOf (now (a .site)) (now (a .book)))) (m .before .state-of .ensures) in (
       ap (λ (x : MonthAnswer). x .refusal) e,
       (c .words-of .ensures ∙ ap (λ (x : MonthAnswer). wordsOf (x .state)) e, ap (λ (x : MonthAnswer). x .blood) e),
     )

@@ -16,7 +16,7 @@ weights-fit-requires c κs = search needs
 rates-fit-requires : tie.Need-rates-fit-requires
 rates-fit-requires c κs = search needs
 
--- where the volumes fit, the row fits as the weights and the rates do
+-- if the volumes fit, the row fits as the weights and the rates do
 volumes-passed : (c : tie.Then1) → let w = c .before .before .args .row in rowFits w ≡ weightsFit w && ratesFit (w .rates)
 unfolding rowFits
 volumes-passed c = rw (sym (c .before .volumes-fit .ensures) ∙ c .if1 .taken)
