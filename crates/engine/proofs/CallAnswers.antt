@@ -1,12 +1,13 @@
 -- What the month call, the start and the run answer, in the order of their refusals.
 -- Assumes nothing.
 use mathlib.Core.Path.{_≡_, refl, sym, ap, _∙_}
-use mathlib.Core.List.{List}
+use mathlib.Core.List.{List, [], _∷_}
+use lib.Dec.{eqb}
 use Prim.Native.Nat.{ℕ, zero, suc}
 use native.Mathlib.Omega.{arith}
 use lib.ListN.{length, getD}
-use borrow.Author.Tests.{eqb-true, eq-eqb, ne-eqb}
-use Rattle.numbers.specs.Choice.{unless, orElse, answerBy}
+use borrow.Author.Tests.{eqb-true}
+use Rattle.numbers.specs.Choice.{unless, orElse, firstOf, answerBy}
 use Rattle.numbers.proofs.Refusals.{orElse-first, orElse-last, firstOf-none, unless-none, answer-refused}
 use Rattle.row.specs.Row.{lastMonth, rowOf}
 use Rattle.book.specs.Book.{tableNumbers}
@@ -26,8 +27,8 @@ use Rattle.files.specs.Internal.{FilesAreRead}
 use Rattle.engine.specs.declared.RunStart.{RunStart}
 use Rattle.engine.specs.Birth.{birthRefusals, birthRefusal, birthOf}
 use Rattle.engine.specs.Month.{monthRefusal, monthOf}
-use Rattle.engine.specs.Run.{startRefusals, startRefusal, runOf}
-use Rattle.engine.specs.Internal.{refusedStart, birthIn, Started, refusedRun}
+use Rattle.engine.specs.Run.{headRefusals, startRefusals, startRefusal, runOf}
+use Rattle.engine.specs.Internal.{birthIn, Started, refusedRun}
 use Rattle.engine.proofs.FilesDecoded.{read-as, read-long, read-decoded, files-passed}
 
 -- a month call of files that pass
@@ -47,51 +48,48 @@ module _ {f : Files} {table : List ℕ} {x : FilesRead} (read : FilesAreRead f t
   pub month-files-read : (s : ℕ) (a : State) → x .refusal ≡ 0 → childMonth s a (x .scenario) table ≡ monthOf s a f
   month-files-read s a z = read-as f (read .scenario z) (read .table-is z) (childMonth s a) ∙ month-passed s a f (files-passed read z)
 
--- the start of a run into a list of so many places: x is the answer
-module _ (f : Files) (places : ℕ) (table : List ℕ) where
-  refused-start : (r : ℕ) → startRefusal f places ≡ r → (r ≡ 0 → ⊥) → (x : RunStart) → x ≡ refusedStart r → Started f places table x
-  refused-start r e h x ex =
-      rw ex
-      (record {
-        birth = rw e (refused-birth r _ h);
+-- the start of a run into a list of so many places, by its lengths and the reading of its files
+module _ (f : Files) (places : ℕ) (table : List ℕ) {lengths : ℕ} (el : lengths ≡ lengthRefusal f) {y : FilesRead} (read : FilesAreRead f table y)
+    {head : ℕ} (eh : head ≡ firstOf (headRefusals lengths places (y .refusal))) where
+  -- the head's refusals come before birth's 22
+  start-by-head : startRefusal f places ≡ orElse head (newbornRefusal (scenarioIn f) (tableIn f))
+  unfolding startRefusal birthRefusal
+  start-by-head =
+      rw (eh, el, read .refusal)
+      (by (lengthRefusal f) (unless (eqb places lastMonth) 2) (filesRefusal f) (newbornRefusal (scenarioIn f) (tableIn f)))
+    where
+      by : (p q r n : ℕ) → firstOf (p ∷ q ∷ firstOf (r ∷ n ∷ []) ∷ []) ≡ orElse (firstOf (p ∷ q ∷ r ∷ [])) n
+      by (suc p) q r n = refl
+      by zero (suc q) r n = refl
+      by zero zero (suc r) n = refl
+      by zero zero zero zero = refl
+      by zero zero zero (suc n) = refl
+
+  pub start-refused : (head ≡ 0 → ⊥) → (a : State) → a ≡ zeroState → Started f places table (record { refusal = head; scenario = y .scenario; state = a })
+  start-refused h a ea =
+      record {
+        birth = rw (ea, start-by-head, orElse-first head (newbornRefusal (scenarioIn f) (tableIn f)) h) (refused-birth head _ h);
         scenario = λ z. absurd (h z);
         table-is = λ z. absurd (h z);
-      })
+      }
 
-  module _ {lengths : ℕ} (el : lengths ≡ lengthRefusal f) where
-    pub start-lengths-refused : (lengths ≡ 0 → ⊥) → (x : RunStart) → x ≡ refusedStart lengths → Started f places table x
-    unfolding startRefusal
-    start-lengths-refused h = refused-start lengths (rw (← el) (orElse-first lengths _ h)) h
+  module _ (passed : head ≡ 0) where
+    pub read-passed : y .refusal ≡ 0
+    read-passed = firstOf-none (headRefusals lengths places (y .refusal)) (sym eh ∙ passed) 2
 
-    module _ (long : lengths ≡ 0) where
-      pub start-list-refused : (places ≡ lastMonth → ⊥) → (x : RunStart) → x ≡ refusedStart 2 → Started f places table x
-      unfolding startRefusal unless
-      start-list-refused h = refused-start 2 (rw (sym el ∙ long, ne-eqb places lastMonth h)) (λ z. omega arith)
-
-      module _ (all : places ≡ lastMonth) {y : FilesRead} (read : FilesAreRead f table y) where
-        start-birth : startRefusal f places ≡ birthRefusal f
-        unfolding startRefusal unless
-        start-birth = rw (sym el ∙ long, eq-eqb places lastMonth all) (orElse-last (birthRefusal f))
-
-        pub start-files-refused : (y .refusal ≡ 0 → ⊥) → (x : RunStart) → x ≡ refusedStart (y .refusal) → Started f places table x
-        unfolding birthRefusal
-        start-files-refused h = refused-start (y .refusal) (start-birth ∙ rw (← read .refusal) (orElse-first (y .refusal) _ h)) h
-
-        -- the birth that the code computes
-        pub start-born : y .refusal ≡ 0 → (born : BirthAnswer) → born ≡ birthAnswer (newbornRefusal (y .scenario) table) (newborn (y .scenario) table)
-            → Started f places table (record { refusal = born .refusal; scenario = y .scenario; state = born .state })
-        unfolding birthRefusal
-        start-born z born eb =
-            let its-refusal : startRefusal f places ≡ newbornRefusal (scenarioIn f) (tableIn f) =
-            start-birth ∙ rw (sym (read .refusal) ∙ z) (orElse-last (newbornRefusal (scenarioIn f) (tableIn f))) in
-            record {
-              birth =
-                  eb
-                  ∙ read-as f (read .scenario z) (read .table-is z) (λ scenario l. birthAnswer (newbornRefusal scenario l) (newborn scenario l))
-                  ∙ ap (λ (n : ℕ). birthAnswer n (newborn (scenarioIn f) (tableIn f))) (sym its-refusal);
-              scenario = λ e. read .scenario z;
-              table-is = λ e. read .table-is z;
-            }
+    -- the birth that the code computes
+    pub start-born : (born : BirthAnswer) → born ≡ birthAnswer (newbornRefusal (y .scenario) table) (newborn (y .scenario) table)
+        → Started f places table (record { refusal = born .refusal; scenario = y .scenario; state = born .state })
+    start-born born eb =
+        record {
+          birth =
+              eb
+              ∙ read-as f (read .scenario read-passed) (read .table-is read-passed) (λ scenario l. birthAnswer (newbornRefusal scenario l) (newborn scenario l))
+              ∙ ap (λ (n : ℕ). birthAnswer n (newborn (scenarioIn f) (tableIn f)))
+              (sym (start-by-head ∙ ap (λ (n : ℕ). orElse n (newbornRefusal (scenarioIn f) (tableIn f))) passed));
+          scenario = λ e. read .scenario read-passed;
+          table-is = λ e. read .table-is read-passed;
+        }
 
 -- birth is the start of a run into a list of 84 places: files of a wrong length are refused with 1 in any case
 length-first : (f : Files) (r : ℕ) → lengthRefusal f ≡ suc r → birthRefusal f ≡ suc r

@@ -3,7 +3,6 @@
 use mathlib.Core.Path.{_≡_}
 use Prim.Native.Nat.{ℕ}
 use mathlib.Core.List.{List}
-use Rattle.site.specs.Scenario.{blankScenario}
 use Rattle.state.specs.State.{zeroState}
 use Rattle.child.specs.declared.BirthAnswer.{BirthAnswer}
 use Rattle.child.specs.declared.RunAnswer.{RunAnswer}
@@ -11,10 +10,6 @@ use Rattle.child.specs.Birth.{newborn, birthAnswer}
 use Rattle.files.specs.Files.{Files, scenarioIn, tableIn}
 use Rattle.engine.specs.declared.RunStart.{RunStart}
 use Rattle.engine.specs.Run.{startRefusal}
-
--- a start that is refused before birth
-abbrev pub refusedStart : ℕ → RunStart
-refusedStart r = record { refusal = r; scenario = blankScenario; state = zeroState }
 
 -- the birth that a start answers
 abbrev pub birthIn : RunStart → BirthAnswer

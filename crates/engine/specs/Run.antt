@@ -11,9 +11,13 @@ use Rattle.files.specs.Files.{Files, lengthRefusal}
 use Rattle.engine.specs.Birth.{birthRefusal, birthOf}
 use Rattle.engine.specs.Month.{monthOf}
 
--- why a run does not start: 1, then 2 if the list has not 84 places, then birth's numbers
+-- the refusals of lengths, then 2 if the list has not 84 places, then those that are left
+abbrev pub headRefusals : ℕ → ℕ → ℕ → List ℕ
+headRefusals lengths places left = lengths ∷ unless (eqb places lastMonth) 2 ∷ left ∷ []
+
+-- why a run does not start: 1, 2, then birth's numbers
 abbrev pub startRefusals : Files → ℕ → List ℕ
-startRefusals f places = lengthRefusal f ∷ unless (eqb places lastMonth) 2 ∷ birthRefusal f ∷ []
+startRefusals f places = headRefusals (lengthRefusal f) places (birthRefusal f)
 
 unfoldable pub startRefusal : Files → ℕ → ℕ
 startRefusal f places = firstOf (startRefusals f places)

@@ -8,54 +8,56 @@ use kinetics::State;
 use site::Scenario;
 ghost use mathlib.Core.Path.{_≡_};
 ghost use lib.ListN.{length};
+ghost use Rattle.numbers.specs.Choice.{firstOf};
 ghost use Rattle.steps.specs.Steps.{stepsADay};
 ghost use Rattle.child.specs.Months.{runAnswer, runList};
 ghost use Rattle.files.specs.Files.{filesOf};
 ghost use Rattle.engine.specs.Birth.{birthOf};
 ghost use Rattle.engine.specs.Month.{monthOf};
-ghost use Rattle.engine.specs.Run.{runOf};
-ghost use Rattle.engine.specs.Internal.{refusedStart, Started, refusedRun};
+ghost use Rattle.engine.specs.Run.{headRefusals, runOf};
+ghost use Rattle.engine.specs.Internal.{Started, refusedRun};
 
 // Blood list not 84 long.
 const WRONG_LIST_LENGTH: u32 = 2;
 
-// What the start of a run answers: 0, the scenario and the newborn child; or a refusal, the blank scenario and the all-zero state.
+// What the start of a run answers: 0, the scenario and the newborn child; or a refusal, some scenario and the all-zero state.
 pub struct RunStart {
     pub refusal: u32,
     pub scenario: Scenario,
     pub state: State,
 }
 
-// A start that is refused before birth.
-fn refused_start(refusal: u32) -> RunStart
-    ensures { λ r. ⌜ r ≡ refusedStart refusal ⌝ }
+// Why a run does not come to its birth, or 0: lengths, then a list of so many places, then files.
+fn head_refusal(lengths: u32, places: usize, files: u32) -> u32
+    ensures { λ r. ⌜ r ≡ firstOf (headRefusals lengths places files) ⌝ }
 {
-    let scenario = site::blank_scenario();
-    let state = state::zero_state();
-    RunStart {
-        refusal,
-        scenario,
-        state,
+    if lengths != 0 {
+        return lengths;
     }
+    if places != MONTHS {
+        return WRONG_LIST_LENGTH;
+    }
+    files
 }
 
-// The head of a run into a list of so many places: lengths, list, files, birth. The book is read into the table.
+// The head of a run into a list of so many places: lengths, list, files, birth. The book is read into the table, and the files before
+// the list is tested, since a refused answer holds a scenario too.
 fn start(site: &[u8], book: &[u8], places: usize, table: &mut [u32; TABLE_NUMBERS]) -> RunStart
     ensures { λ r. ⌜ Started (filesOf (now (site .entry)) (now (book .entry))) places (now (table .exit)) r ⌝ }
 {
     let lengths = files::length_refusal(site, book);
-    if lengths != 0 {
-        return refused_start(lengths);
-    }
-    if places != MONTHS {
-        return refused_start(WRONG_LIST_LENGTH);
-    }
     let read = files::read_files(site, book, table);
-    let of_files = read.refusal;
-    if of_files != 0 {
-        return refused_start(of_files);
-    }
     let scenario = read.scenario;
+    let of_files = read.refusal;
+    let refusal = head_refusal(lengths, places, of_files);
+    if refusal != 0 {
+        let state = state::zero_state();
+        return RunStart {
+            refusal,
+            scenario,
+            state,
+        };
+    }
     let birth = child::born(scenario, table);
     let over = birth.refusal;
     let state = birth.state;

@@ -5,7 +5,7 @@ use block::Form;
 use block::WRONG_LENGTH;
 use places::FIELDS;
 ghost use mathlib.Core.Path.{_≡_};
-ghost use Rattle.site.specs.Scenario.{dustSourceOf, waterSourceOf, scenarioOf, blankScenario};
+ghost use Rattle.site.specs.Scenario.{dustSourceOf, waterSourceOf, scenarioOf};
 ghost use Rattle.site.specs.Site.{refusedWith, readSite};
 
 mod limits;
@@ -81,22 +81,15 @@ fn scenario_of(fields: [u32; FIELDS]) -> Scenario
     }
 }
 
-// The scenario beside a refusal.
-pub fn blank_scenario() -> Scenario
-    ensures { λ r. ⌜ r ≡ blankScenario ⌝ }
-{
-    Scenario {
-        fields: [0; FIELDS],
-        dust_source: DustSource::Given,
-        water_source: WaterSource::Constant,
-    }
-}
-
 // A refusal, with the blank scenario.
 fn refused_with(refusal: u32) -> SiteRead
     ensures { λ r. ⌜ r ≡ refusedWith refusal ⌝ }
 {
-    let scenario = blank_scenario();
+    let scenario = Scenario {
+        fields: [0; FIELDS],
+        dust_source: DustSource::Given,
+        water_source: WaterSource::Constant,
+    };
     SiteRead { refusal, scenario }
 }
 
