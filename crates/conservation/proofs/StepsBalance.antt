@@ -14,7 +14,7 @@ use Rattle.row.specs.declared.Rates.{Rates}
 use Rattle.row.specs.Limits.{RateLimits}
 use Rattle.kinetics.specs.declared.State.{State}
 use Rattle.kinetics.specs.Step.{Exits, burden, burdenLimit, urineLedger, faecesLedger, skinLedger, next}
-use Rattle.kinetics.proofs.StepLaws.{step-law}
+use Rattle.margin.proofs.StepLaws.{step-law}
 use Rattle.steps.specs.Steps.{Step, exitsOf, leaves, stepsFrom, lastFrom, stepsRefusal}
 use Rattle.conservation.specs.Conservation.{Chain}
 use Rattle.steps.proofs.Shares.{sumOf}
@@ -64,7 +64,9 @@ module _ (rates : State → Rates) where
     pub steps-chain : (a : State) (us : List ℕ) → Chain a (stepsFrom rates a us) (lastFrom rates a us)
     unfolding stepsFrom lastFrom
     steps-chain a [] = (refl, refl)
-    steps-chain a (u ∷ us) = (refl, (step-law (rates a) a u (limits a) .law .margin, steps-chain (next (rates a) a u) us))
+    steps-chain a (u ∷ us) =
+        let k = step-law (rates a) a u (limits a) in
+        (refl, (rw (k .lead) (k .law .margin), steps-chain (next (rates a) a u) us))
 
     pub steps-balance : (a : State) (us : List ℕ) → StepsBalanced a (lastFrom rates a us) (stepsFrom rates a us) (sumOf us)
     unfolding stepsFrom lastFrom

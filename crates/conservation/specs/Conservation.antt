@@ -8,8 +8,8 @@ use lib.ListN.{length, getD, take, drop}
 use Rattle.numbers.specs.Choice.{answerBy}
 use Rattle.numbers.specs.Lists.{totalOf}
 use Rattle.kinetics.specs.declared.State.{State}
-use Rattle.kinetics.specs.Step.{Exits, burden, urineLedger, faecesLedger, skinLedger}
-use Rattle.kinetics.specs.Solution.{Margin}
+use Rattle.kinetics.specs.Step.{Exits, plasma, burden, urineLedger, faecesLedger, skinLedger}
+use Rattle.margin.specs.Margin.{Margin}
 use Rattle.files.specs.Files.{Files, scenarioIn, tableIn}
 use Rattle.steps.specs.Steps.{daysAMonth, Step, exitsOf, leaves, stepsFrom}
 use Rattle.engine.specs.Month.{monthOf}
@@ -44,7 +44,8 @@ stepsOf steps m =
 -- after each, plasma lies within the margin
 abbrev pub Chain : State → List Step → State → Type 0
 Chain a [] b = (a .lead ≡ b .lead) × (a .ledgers ≡ b .ledgers)
-Chain a (x ∷ xs) b = (x .before ≡ a) × (Margin (x .rates) (x .before .lead) (x .uptake) × Chain (leaves x) xs b)
+Chain a (x ∷ xs) b =
+    (x .before ≡ a) × (Margin (x .rates) (x .before .lead) (x .uptake) (plasma (leaves x .lead)) × Chain (leaves x) xs b)
 
 -- an accepted call is a whole month: its number is one more, its steps are a chain, 30 times those of a day, and their U sum to 30 T
 pub record WholeMonth (steps : Files → ℕ) (m : Month) : Type 0 where

@@ -11,7 +11,6 @@ use Rattle.row.specs.Row.{unit, out, back, exit}
 use Rattle.row.specs.Limits.{RateLimits}
 use Rattle.kinetics.specs.Step.{compartmentDivisor, retained, divisor}
 use Rattle.kinetics.specs.Solution.{product, productOver, denominator}
-use Rattle.kinetics.specs.Laws.{SolutionLaws}
 
 -- Ei - bi
 unfoldable pub lessBack : Rates → ℕ → ℕ
@@ -48,7 +47,7 @@ module _ (r : Rates) where
   scale-pos = mul-pos product-pos (omega arith)
 
   -- each F/Ei is whole
-  productOver-whole : (i : ℕ) → i < 6 → compartmentDivisor r i * productOver r i ≡ product r
+  pub productOver-whole : (i : ℕ) → i < 6 → compartmentDivisor r i * productOver r i ≡ product r
   unfolding product productOver
   productOver-whole i l = part-whole 6 (compartmentDivisor r) i l
 
@@ -83,7 +82,7 @@ module _ (r : Rates) where
   retained-le = weigh-over 6 (compartmentDivisor r) (retained r) _ (λ i l. omega (arith, retained-at i, out-split i))
 
   -- what Q subtracts, and what it leaves of the rates out
-  out-sum : sumTo 6 (λ i. out r i * back r i * productOver r i) + netOut r ≡ product r * sumTo 6 (out r)
+  pub out-sum : sumTo 6 (λ i. out r i * back r i * productOver r i) + netOut r ≡ product r * sumTo 6 (out r)
   unfolding netOut product
   out-sum =
       omega (
@@ -94,7 +93,7 @@ module _ (r : Rates) where
       )
 
   -- Q without its subtraction
-  denominator-eq : denominator r ≡ product r * (unit + r .urine) + netOut r
+  pub denominator-eq : denominator r ≡ product r * (unit + r .urine) + netOut r
   unfolding denominator
   denominator-eq = omega (arith, out-sum)
 
@@ -112,11 +111,3 @@ module _ (r : Rates) where
   pub divisor-le : product r * divisor r ≤ denominator r + 6 * product r
   unfolding divisor
   divisor-le = omega (arith, denominator-eq, retained-le)
-
-pub solution-law : SolutionLaws
-solution-law r =
-    record {
-      over = productOver-whole r;
-      whole = omega (arith, out-sum r);
-      positive = omega (arith, denominator-eq r, product-pos r);
-    }

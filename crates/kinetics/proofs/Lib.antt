@@ -2,7 +2,5 @@
 pub mod Compartments
 pub mod DivisorMargin
 pub mod Balance
-pub mod Margins
-pub mod StepLaws
 pub mod Bounds
 pub mod Assembly

@@ -1,11 +1,10 @@
 -- The exact solution of demand 3 in whole numbers: plasma lead p' = N/Q (document 01, "One step").
 -- Assumes nothing.
-use Prim.Native.Nat.{ℕ, _+_, _-_, _*_, _/_, _≤_, _<_}
-use mathlib.Core.List.{List}
+use Prim.Native.Nat.{ℕ, _+_, _-_, _*_, _/_}
 use Rattle.numbers.specs.Sums.{sumTo, prodTo}
 use Rattle.row.specs.declared.Rates.{Rates}
 use Rattle.row.specs.Row.{unit, out, back}
-use Rattle.kinetics.specs.Step.{plasma, amount, compartmentDivisor, nextLead}
+use Rattle.kinetics.specs.Step.{compartmentDivisor}
 
 -- F, the product of the six Ei
 unfoldable pub product : Rates → ℕ
@@ -22,9 +21,3 @@ denominator r = product r * (unit + r .urine + sumTo 6 (out r)) - sumTo 6 (λ i.
 -- N, from any plasma lead p and amounts m
 unfoldable pub numerator : Rates → ℕ → (ℕ → ℕ) → ℕ → ℕ
 numerator r p m u = unit * (product r * (p + u) + sumTo 6 (λ i. back r i * m i * productOver r i))
-
--- new P of the step from `lead` against the exact solution's N/Q (demand 3)
-pub record Margin (r : Rates) (lead : List ℕ) (u : ℕ) : Type 0 where
-  pub least : numerator r (plasma lead) (amount lead) u ≤ plasma (nextLead r lead u) * denominator r
-  pub most : unit * (plasma (nextLead r lead u) * denominator r - numerator r (plasma lead) (amount lead) u)
-      < 459 * unit * denominator r + 384 * numerator r (plasma lead) (amount lead) u

@@ -19,7 +19,7 @@ use Rattle.steps.specs.Share.{shareOf}
 use Rattle.kinetics.specs.Step.{burden, burdenLimit, exits, exitSum, next}
 use Rattle.kinetics.specs.Internal.{DivisorsOf, Ready}
 use Rattle.steps.proofs.ShareSum.{share-law}
-use Rattle.kinetics.proofs.StepLaws.{step-law}
+use Rattle.margin.proofs.StepLaws.{step-law}
 use Rattle.steps.specs.declared.Reached.{Reached}
 use Rattle.state.specs.State.{ledgerSum, monthLimit}
 use Rattle.steps.specs.Steps.{daysAMonth, sharesFrom, dayShares, daysShares, lastFrom, stepsRefusal}

@@ -7,9 +7,10 @@ use Rattle.numbers.specs.Sums.{sumTo}
 use Rattle.row.specs.declared.Rates.{Rates}
 use Rattle.row.specs.Row.{unit, out, back}
 use Rattle.row.specs.Limits.{RateLimits}
 use Rattle.kinetics.specs.declared.State.{State}
 use Rattle.kinetics.specs.Step.{plasma, amount, burden, compartmentDivisor, solvedPlasma, newAmount, exits, exitSum, nextLead, urineLedger, faecesLedger, skinLedger, next}
-use Rattle.kinetics.specs.Solution.{product, productOver, denominator, Margin}
+use Rattle.kinetics.specs.Solution.{product, productOver, denominator}
+use Rattle.margin.specs.Margin.{Margin}
 
 -- the exact solution is a fraction: each F/Ei is whole, Q's subtraction is not cut off at 0, and Q is positive
 pub record SolutionLaw (r : Rates) : Type 0 where
@@ -24,7 +25,7 @@ SolutionLaws = (r : Rates) → SolutionLaw r
 pub record LeadLaw (r : Rates) (lead : List ℕ) (u : ℕ) : Type 0 where
   pub whole : sumTo 6 (newAmount r lead (solvedPlasma r lead u)) + exitSum (exits r lead u) ≤ plasma lead + u + sumTo 6 (amount lead)
   pub conserved : burden (nextLead r lead u) + exitSum (exits r lead u) ≡ burden lead + u
-  pub margin : Margin r lead u
+  pub margin : Margin r lead u (plasma (nextLead r lead u))
 
 -- for all rates within their limits, from any amounts, with any uptake
 abbrev pub LeadLaws : Type 0
