@@ -1,12 +1,9 @@
 -- The bench figures, by computing the definitions.
 -- Assumes nothing.
 use mathlib.Core.Path.{refl}
-use Rattle.numbers.specs.Choice.{every}
 use Rattle.numbers.specs.Sums.{sumTo}
 use Rattle.block.specs.Block.{wordAt, checkOf}
 use Rattle.block.specs.Writer.{le16, layout, bodyOf}
-use Rattle.site.specs.Fields.{limits, withinLimits, fieldsFit}
-use Rattle.row.specs.Row.{volumesFit, weightsFit, returnsFit, ratesFit, rowFits}
 use Rattle.uptake.specs.Age.{ageOf}
 use Rattle.intake.specs.Intake.{airIntake, mixedWater, waterIntake, soilIntake, dustConcentration, dustIntake, intakesOf}
 use Rattle.uptake.specs.Uptake.{percentOf, saturationOf, absorbable, absorbableTotal, passiveUptake, activePart, activeUptake, mediumUptake}
@@ -15,7 +12,7 @@ use Rattle.kinetics.specs.Step.{compartmentDivisor, returned, retained, inflow,
 use Rattle.blood.specs.Birth.{birthBlood, birthOrgan, birthLead}
 use Rattle.blood.specs.Blood.{ecfVolume, plasmaPart, bloodOf}
 use Rattle.steps.specs.Steps.{sharesFrom}
-use Rattle.conservation.specs.Bench.{benchExposure, benchRates, benchRow, BenchFigures, WithinLimits}
+use Rattle.conservation.specs.Bench.{benchExposure, benchRates, benchRow, BenchFigures}
 
 pub bench-figures : BenchFigures
 unfolding benchExposure benchRates benchRow sumTo wordAt checkOf le16 layout bodyOf sharesFrom
@@ -38,7 +35,3 @@ bench-figures =
       check = refl;
       ages = refl;
     }
-
-pub within-limits : WithinLimits
-unfolding benchRates benchRow every sumTo limits withinLimits fieldsFit volumesFit weightsFit returnsFit ratesFit rowFits
-within-limits = record { fields = refl; row = refl }

@@ -9,10 +9,10 @@ use lib.ListN.{length, getD, take, drop}
 use Rattle.numbers.specs.Lists.{Each}
 use Rattle.kinetics.specs.declared.State.{State}
 use Rattle.files.specs.Files.{Files}
-use Rattle.steps.specs.Steps.{daysAMonth}
+use Rattle.steps.specs.Steps.{stepsADay, daysAMonth}
 use Rattle.engine.specs.Birth.{birthOf}
 use Rattle.engine.specs.Month.{monthRefusal, monthOf}
-use Rattle.conservation.specs.Conservation.{Month, keep, acceptedMonths, dailyOf, stepsOf, Months, Balanced, Demand3}
+use Rattle.conservation.specs.Conservation.{Month, keep, acceptedMonths, dailyOf, stepsOf, Months, Balanced, Demand3, FromBirth}
 use Rattle.conservation.specs.Laws.{refusals, StateLaw}
 use Rattle.state.proofs.SoundState.{Sound}
 use Rattle.conservation.proofs.StateAlone.{month-not-20}
@@ -80,6 +80,9 @@ pub demand3 : Demand3
 demand3 steps pos a calls =
     let l = accepted-linked steps pos a calls in
     record { months = linked-months steps a (acceptedMonths steps a calls) l; balance = months-between-balanced steps a a (acceptedMonths steps a calls) l }
+
+pub from-birth : FromBirth
+from-birth birth born calls = demand3 (λ f. stepsADay) (λ f. omega arith) (birthOf birth .state) calls
 
 pub state-law : StateLaw
 state-law steps pos birth born calls = never-20 steps pos (birthOf birth .state) calls (birth-sound birth born)

@@ -4,3 +4,4 @@ pub mod RunIsCalls
 pub mod StateAlone
 pub mod StepsBalance
 pub mod WholeMonths
+pub mod Witness

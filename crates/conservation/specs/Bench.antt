@@ -2,19 +2,16 @@
 -- Assumes nothing.
 use Prim.Native.Nat.{ℕ}
 use mathlib.Core.Path.{_≡_}
-use mathlib.Core.List.{List, [], _∷_, _++_, map}
-use mathlib.Core.Bool.{true}
-use lib.ListN.{replicate}
+use mathlib.Core.List.{List, [], _∷_, map}
 use Rattle.block.specs.Block.{checkOf}
 use Rattle.block.specs.Writer.{bodyOf}
 use Rattle.site.specs.declared.DustSource.the-variants.{MultipleSource}
 use Rattle.site.specs.declared.WaterSource.the-variants.{ThreeSources}
 use Rattle.exposure.specs.declared.Exposure.{Exposure}
-use Rattle.site.specs.Fields.{fieldsFit}
 use Rattle.site.specs.Site.{siteForm}
 use Rattle.row.specs.declared.Rates.{Rates}
 use Rattle.row.specs.declared.Row.{Row}
-use Rattle.row.specs.Row.{unit, rowFits}
+use Rattle.row.specs.Row.{unit}
 use Rattle.uptake.specs.Age.{ageOf}
 use Rattle.intake.specs.Intake.{airIntake, waterIntake, soilIntake, dustConcentration, dustIntake, dietMedium}
 use Rattle.uptake.specs.Uptake.{saturationOf, absorbable, absorbableTotal, mediumUptake}
@@ -124,9 +121,3 @@ pub record BenchFigures : Type 0 where
   pub check : checkOf (bodyOf siteForm []) ≡ 2
   -- months 12, 13, 84
   pub ages : map ageOf (12 ∷ 13 ∷ 84 ∷ []) ≡ 0 ∷ 1 ∷ 6 ∷ []
-
--- beside the table: fields and a row that are within their limits, so that the laws of read-back speak of some card
-pub record WithinLimits : Type 0 where
-  -- saturation 1,000,000, all else 0
-  pub fields : fieldsFit (replicate 92 0 ++ (1_000_000 ∷ 0 ∷ [])) ≡ true
-  pub row : rowFits benchRow ≡ true

@@ -11,7 +11,8 @@ use Rattle.kinetics.specs.declared.State.{State}
 use Rattle.kinetics.specs.Step.{Exits, plasma, burden, urineLedger, faecesLedger, skinLedger}
 use Rattle.margin.specs.Margin.{Margin}
 use Rattle.files.specs.Files.{Files, scenarioIn, tableIn}
-use Rattle.steps.specs.Steps.{daysAMonth, Step, exitsOf, leaves, stepsFrom}
+use Rattle.steps.specs.Steps.{stepsADay, daysAMonth, Step, exitsOf, leaves, stepsFrom}
+use Rattle.engine.specs.Birth.{birthOf}
 use Rattle.engine.specs.Month.{monthOf}
 use Rattle.child.specs.Month.{monthAfter, monthUptake, monthRates, monthShares}
 
@@ -81,8 +82,13 @@ pub record Conserved (steps : Files → ℕ) (a : State) (ms : List Month) : Typ
   pub months : Months steps a ms
   pub balance : (i j : ℕ) → i ≤ j → j ≤ length ms → Balanced steps (endAt a ms i) (endAt a ms j) (take (j - i) (drop i ms))
 
--- DEMAND 3: for any positive numbers of steps a day, from what the accepted birth answered, as from any other state a,
--- over every list of month calls; the calls' own instance is six steps a day for all files, `λ f. stepsADay`
+-- demand 3 in general: for any positive numbers of steps a day, from any state a, over every list of month calls
 abbrev pub Demand3 : Type 0
 Demand3 =
     (steps : Files → ℕ) → ((f : Files) → 0 < steps f) → (a : State) (calls : List Files) → Conserved steps a (acceptedMonths steps a calls)
+
+-- DEMAND 3 in the owner's words: over any list of month calls after an accepted birth, at six steps a day
+abbrev pub FromBirth : Type 0
+FromBirth =
+    (birth : Files) → birthOf birth .refusal ≡ 0 → (calls : List Files)
+    → Conserved (λ f. stepsADay) (birthOf birth .state) (acceptedMonths (λ f. stepsADay) (birthOf birth .state) calls)

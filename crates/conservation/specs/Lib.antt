@@ -2,3 +2,4 @@
 pub mod Conservation
 pub mod Laws
 pub mod Bench
+pub mod Witness

@@ -1,0 +1,293 @@
+-- The witness is accepted: its site file and its book by the laws of read-back, its birth and month by computing, its steps by their balance.
+-- Assumes nothing.
+use Prim.Native.Nat.{ℕ, _+_, _-_, _*_, _/_, _%_, _≤_, _<_}
+use mathlib.Core.Path.{_≡_, refl, sym, ap, ap₂, _∙_}
+use mathlib.Core.Bool.{true}
+use mathlib.Core.List.{List, [], _∷_}
+use native.Mathlib.Omega.{arith}
+use borrow.Author.Tests.{le-leb, ltb-true, eq-eqb}
+use lib.ListN.{length, getD, take, drop, replicate, length-replicate, length-drop}
+use lib.Seq.{ext-getD, getD-take, getD-drop, length-take-le}
+use lib.Dec.{ltb}
+use Rattle.numbers.specs.Choice.{unless, every, tab}
+use Rattle.numbers.specs.Sums.{sumTo}
+use Rattle.numbers.proofs.Every.{every-at, length-tab, getD-tab, tab-same}
+use Rattle.numbers.proofs.Lists.{getD-below}
+use Rattle.block.specs.Block.{byteAt, blockBytes, checkAt, blockAt}
+use Rattle.block.specs.Writer.{sealed, written, bodyOf}
+use Rattle.block.proofs.Laid.{body-passes}
+use Rattle.block.proofs.Sealed.{length-sealed, written-sealed}
+use Rattle.site.specs.declared.SiteRead.{SiteRead}
+use Rattle.site.specs.Fields.{fieldCount, limits, withinLimits, fieldsFit}
+use Rattle.site.specs.Scenario.{scenarioOf, motherOf}
+use Rattle.site.specs.Site.{siteForm, siteRefusal, readAs, readSite}
+use Rattle.site.proofs.FieldsWithin.{read-refusal}
+use Rattle.site.proofs.ReadBack.{fields-read-back}
+use Rattle.row.specs.declared.Rates.{Rates}
+use Rattle.row.specs.declared.Row.{Row}
+use Rattle.row.specs.Row.{numbersARow, lastMonth, rowNumbers, rowFrom, rowOf, volumesFit, weightsFit, returnsFit, ratesFit, rowFits}
+use Rattle.row.specs.Limits.{RateLimits}
+use Rattle.book.specs.Book.{bookBlocks, bookBytes, tableNumbers, numbersABlock, bookForm}
+use Rattle.book.specs.Laws.{blockPart, BookReads}
+use Rattle.book.proofs.ReadBack.{book-read-back}
+use Rattle.kinetics.specs.declared.State.{State}
+use Rattle.kinetics.specs.Step.{burden, burdenLimit, next}
+use Rattle.row.proofs.RowWithin.{row-within}
+use Rattle.exposure.specs.declared.Exposure.{Exposure}
+use Rattle.exposure.specs.Exposure.{exposureAt}
+use Rattle.intake.specs.Intake.{airIntake, waterIntake, soilIntake, dustConcentration, dustIntake, intakesOf, refusalOf, intakeRefusal}
+use Rattle.uptake.specs.Age.{ageOf}
+use Rattle.uptake.specs.Uptake.{percentOf, saturationOf, absorbable, absorbableTotal, passiveUptake, activePart, activeUptake, mediumUptake, airUptake, dayUptake}
+use Rattle.blood.specs.Birth.{birthBlood, birthTotal, birthPlasma, birthRedCells, birthOrgan, birthLead, birthState}
+use Rattle.state.specs.State.{isState, stateRefusal}
+use Rattle.steps.specs.Steps.{stepsADay, daysAMonth, stepsRefusal}
+use Rattle.steps.proofs.Shares.{sumOf, days-total}
+use Rattle.steps.proofs.Loops.{step-conserves}
+use Rattle.child.specs.declared.BirthAnswer.{BirthAnswer}
+use Rattle.child.specs.Birth.{newborn, newbornRefusal, acceptedBirth}
+use Rattle.child.specs.Month.{monthAfter, exposureIn, monthUptake, monthRates, monthShares, childRefusal}
+use Rattle.files.specs.Files.{beforeBookRefusal, filesRefusal, scenarioIn, tableIn}
+use Rattle.engine.specs.Birth.{birthRefusal, birthOf}
+use Rattle.engine.specs.Month.{monthRefusal}
+use Rattle.conservation.proofs.WholeMonths.{month-refusal}
+use Rattle.conservation.specs.Witness.{witnessFields, witnessRow, witnessTable, witnessBlock, witnessFiles, SomethingAccepted}
+
+-- ---- the site file
+
+fields-fit : fieldsFit witnessFields ≡ true
+unfolding witnessFields every limits withinLimits fieldsFit
+fields-fit = refl
+
+fields-long : length witnessFields ≡ fieldCount
+unfolding witnessFields
+fields-long = refl
+
+-- a sealed body is what the writer leaves in a target of zeros
+zeros : List ℕ
+zeros = replicate blockBytes 0
+
+zeros-long : length zeros ≡ blockBytes
+unfolding zeros
+zeros-long = length-replicate {A = ℕ} blockBytes 0
+
+site-body-long : length (bodyOf siteForm witnessFields) ≡ checkAt
+site-body-long = body-passes siteForm witnessFields (omega (arith, fields-long)) (omega arith) (omega arith) (omega (arith, fields-long)) .long
+
+site-read : readSite (witnessFiles .site) ≡ readAs witnessFields
+unfolding witnessFiles
+site-read =
+    ap readSite (sym (written-sealed (bodyOf siteForm witnessFields) zeros site-body-long zeros-long))
+    ∙ fields-read-back witnessFields zeros fields-long fields-fit zeros-long
+
+-- ---- the book
+
+row-long : length witnessRow ≡ numbersARow
+unfolding witnessRow
+row-long = refl
+
+row-small : (k : ℕ) → getD witnessRow k 0 < 4_294_967_296
+unfolding witnessRow every
+row-small =
+    getD-below 4_294_967_296 (omega arith) witnessRow
+    (λ k h. ltb-true (getD witnessRow k 0) 4_294_967_296 (every-at (λ (k : ℕ). ltb (getD witnessRow k 0) 4_294_967_296) 0 numbersARow small k (omega arith) h))
+  where
+    small : every (λ (k : ℕ). ltb (getD witnessRow k 0) 4_294_967_296) 0 numbersARow ≡ true
+    small = refl
+
+abbrev number : ℕ → ℕ
+number j = getD witnessRow (j % numbersARow) 0
+
+table-long : length witnessTable ≡ tableNumbers
+unfolding witnessTable
+table-long = length-tab tableNumbers number
+
+table-small : (k : ℕ) → getD witnessTable k 0 < 4_294_967_296
+unfolding witnessTable
+table-small =
+    getD-below 4_294_967_296 (omega arith) witnessTable
+    (λ k h. rw (getD-tab tableNumbers number k (omega (arith, length-tab tableNumbers number))) (row-small (k % numbersARow)))
+
+-- each row of the table is the same
+table-row : (m : ℕ) → m ≤ lastMonth → rowOf witnessTable m ≡ rowFrom (tab numbersARow (λ (k : ℕ). getD witnessRow k 0))
+unfolding rowOf rowNumbers witnessTable
+table-row m h =
+    ap rowFrom
+    (tab-same numbersARow (λ (k : ℕ). getD witnessTable (numbersARow * m + k) 0) (λ (k : ℕ). getD witnessRow k 0)
+    (λ k l.
+    let place : (numbersARow * m + k) % numbersARow ≡ k = omega arith in
+    getD-tab tableNumbers number (numbersARow * m + k) (omega arith) ∙ ap (λ (i : ℕ). getD witnessRow i 0) place))
+
+-- the row with its fields by name
+row : Row
+row = rowFrom (tab numbersARow (λ (k : ℕ). getD witnessRow k 0))
+
+row-fits : rowFits row ≡ true
+unfolding row witnessRow tab every sumTo volumesFit weightsFit returnsFit ratesFit rowFits
+row-fits = refl
+
+rows-fit : (m : ℕ) → m ≤ lastMonth → rowFits (rowOf witnessTable m) ≡ true
+unfolding row
+rows-fit m h = ap rowFits (table-row m h) ∙ row-fits
+
+part-long : (n : ℕ) → n < bookBlocks → length (blockPart witnessTable n) ≡ numbersABlock
+part-long n h = length-take-le numbersABlock (drop (numbersABlock * n) witnessTable) (omega (arith, length-drop (numbersABlock * n) witnessTable, table-long))
+
+block-body-long : (n : ℕ) → n < bookBlocks → length (bodyOf (bookForm n) (blockPart witnessTable n)) ≡ checkAt
+block-body-long n h =
+    let long = part-long n h in
+    body-passes (bookForm n) (blockPart witnessTable n) (omega arith) (omega arith) (omega arith) (omega arith) .long
+
+block-long : (n : ℕ) → n < bookBlocks → length (witnessBlock n) ≡ blockBytes
+unfolding witnessBlock
+block-long n h = length-sealed (bodyOf (bookForm n) (blockPart witnessTable n)) (block-body-long n h)
+
+-- byte j of the book stands in block j / 512
+abbrev byte : ℕ → ℕ
+byte j = byteAt (witnessBlock (j / blockBytes)) (j % blockBytes)
+
+book-long : length (tab bookBytes byte) ≡ bookBytes
+book-long = length-tab bookBytes byte
+
+block-of-book : (n : ℕ) → n < bookBlocks → blockAt (tab bookBytes byte) n ≡ witnessBlock n
+unfolding blockAt
+block-of-book n h =
+    let rest : length (drop (blockBytes * n) (tab bookBytes byte)) ≡ bookBytes - blockBytes * n = length-drop (blockBytes * n) (tab bookBytes byte) ∙ ap (λ (k : ℕ). k - blockBytes * n) book-long in
+    let long : length (take blockBytes (drop (blockBytes * n) (tab bookBytes byte))) ≡ blockBytes = length-take-le blockBytes (drop (blockBytes * n) (tab bookBytes byte)) (omega arith) in
+    ext-getD 0 (take blockBytes (drop (blockBytes * n) (tab bookBytes byte))) (witnessBlock n) (long ∙ sym (block-long n h))
+    (λ k l.
+    let here : k < blockBytes = omega arith in
+    let block : (blockBytes * n + k) / blockBytes ≡ n = omega arith in
+    let place : (blockBytes * n + k) % blockBytes ≡ k = omega arith in
+    getD-take blockBytes (drop (blockBytes * n) (tab bookBytes byte)) k 0 here
+    ∙ getD-drop (blockBytes * n) (tab bookBytes byte) k 0
+    ∙ getD-tab bookBytes byte (blockBytes * n + k) (omega arith)
+    ∙ ap₂ (λ (b i : ℕ). byteAt (witnessBlock b) i) block place)
+
+book-reads : BookReads (witnessFiles .book) witnessTable
+unfolding witnessFiles witnessBlock
+book-reads =
+    book-read-back (tab bookBytes byte) witnessTable (λ n. zeros) book-long table-long table-small rows-fit (λ n h. zeros-long)
+    (λ n h. block-of-book n h ∙ written-block n h)
+  where
+    written-block : (n : ℕ) → n < bookBlocks → witnessBlock n ≡ written (bodyOf (bookForm n) (blockPart witnessTable n)) zeros
+    written-block n h = sym (written-sealed (bodyOf (bookForm n) (blockPart witnessTable n)) zeros (block-body-long n h) zeros-long)
+
+-- ---- the files
+
+site-long : length (witnessFiles .site) ≡ blockBytes
+unfolding witnessFiles
+site-long = length-sealed (bodyOf siteForm witnessFields) site-body-long
+
+all-book-long : length (witnessFiles .book) ≡ bookBytes
+unfolding witnessFiles
+all-book-long = book-long
+
+site-passes : siteRefusal (witnessFiles .site) ≡ 0
+unfolding readAs
+site-passes = sym (read-refusal (witnessFiles .site)) ∙ ap (λ (x : SiteRead). x .refusal) site-read
+
+files-pass : filesRefusal witnessFiles ≡ 0
+unfolding filesRefusal beforeBookRefusal unless
+files-pass =
+    rw (
+      eq-eqb (length (witnessFiles .site)) blockBytes site-long,
+      eq-eqb (length (witnessFiles .book)) bookBytes all-book-long,
+      site-passes,
+      book-reads .refusal,
+    )
+
+scenario-is : scenarioIn witnessFiles ≡ scenarioOf witnessFields
+unfolding readAs
+scenario-is = ap (λ (x : SiteRead). x .scenario) site-read
+
+-- ---- birth
+
+mother-is : motherOf (scenarioOf witnessFields) ≡ 1_000
+unfolding witnessFields scenarioOf
+mother-is = refl
+
+child : State
+child = birthState row 1_000
+
+newborn-is : newborn (scenarioIn witnessFiles) (tableIn witnessFiles) ≡ child
+unfolding newborn child row
+newborn-is = rw (scenario-is, book-reads .table, table-row 0 (omega arith), mother-is)
+
+-- its burden, and that a month can follow
+burden-is : burden (child .lead) ≡ 1_880_200
+unfolding child row witnessRow tab sumTo birthBlood birthTotal birthPlasma birthRedCells birthOrgan birthLead birthState
+burden-is = refl
+
+child-passes : stateRefusal child ≡ 0
+unfolding child row witnessRow tab sumTo birthBlood birthTotal birthPlasma birthRedCells birthOrgan birthLead birthState isState stateRefusal unless
+child-passes = refl
+
+newborn-passes : newbornRefusal (scenarioIn witnessFiles) (tableIn witnessFiles) ≡ 0
+unfolding newbornRefusal unless
+newborn-passes = rw (newborn-is, le-leb (burden (child .lead)) burdenLimit (omega (arith, burden-is)))
+
+birth-passes : birthRefusal witnessFiles ≡ 0
+unfolding birthRefusal
+birth-passes = rw (files-pass, newborn-passes)
+
+birth-is : birthOf witnessFiles ≡ acceptedBirth child
+unfolding birthOf
+birth-is = rw (birth-passes, newborn-is)
+
+-- ---- the first month
+
+exposure : Exposure
+exposure = exposureIn (scenarioOf witnessFields) 1
+
+intakes-pass : intakeRefusal exposure ≡ 0
+unfolding exposure witnessFields scenarioOf ageOf exposureAt airIntake waterIntake soilIntake dustConcentration dustIntake intakesOf refusalOf intakeRefusal unless
+intakes-pass = refl
+
+day-is : dayUptake exposure (row .«body_weight») (row .«body_weight») ≡ 2_484_000
+unfolding exposure row witnessRow tab witnessFields scenarioOf ageOf exposureAt airIntake waterIntake soilIntake dustConcentration dustIntake intakesOf
+    sumTo percentOf saturationOf absorbable absorbableTotal passiveUptake activePart activeUptake mediumUptake airUptake dayUptake
+day-is = refl
+
+uptake-is : monthUptake (scenarioOf witnessFields) witnessTable 1 ≡ 2_484_000
+unfolding monthUptake exposure row
+uptake-is =
+    ap₂ (λ (w w24 : Row). dayUptake (exposureIn (scenarioOf witnessFields) 1) (w .«body_weight») (w24 .«body_weight»)) (table-row 1 (omega arith)) (table-row 24 (omega arith))
+    ∙ day-is
+
+-- steps whose uptakes fit beside the burden are not refused
+module _ (rates : State → Rates) (limits : (b : State) → RateLimits (rates b)) where
+  steps-pass : (a : State) (us : List ℕ) → burden (a .lead) + sumOf us ≤ burdenLimit → stepsRefusal rates a us ≡ 0
+  unfolding stepsRefusal unless
+  steps-pass a [] h = refl
+  steps-pass a (u ∷ us) h =
+      let kept = step-conserves (rates a) a u (limits a) in
+      rw (le-leb (burden (a .lead) + u) burdenLimit (omega arith)) (steps-pass (next (rates a) a u) us (omega arith))
+
+month-steps-pass : stepsRefusal (monthRates witnessTable 1) child (monthShares stepsADay (scenarioOf witnessFields) witnessTable 1) ≡ 0
+unfolding monthShares
+month-steps-pass =
+    let limits = row-within (rowOf witnessTable 1) (rows-fit 1 (omega arith)) in
+    let total = days-total stepsADay (monthUptake (scenarioOf witnessFields) witnessTable 1) (omega arith) daysAMonth in
+    steps-pass (monthRates witnessTable 1) (λ b. limits .rates) child _ (omega (arith, burden-is, uptake-is))
+
+first-month : monthAfter child ≡ 1
+unfolding child birthState
+first-month = refl
+
+child-month-passes : childRefusal stepsADay child (scenarioOf witnessFields) witnessTable ≡ 0
+unfolding childRefusal exposure
+child-month-passes = rw (child-passes, first-month, intakes-pass, month-steps-pass)
+
+month-passes : monthRefusal stepsADay child witnessFiles ≡ 0
+unfolding monthRefusal
+month-passes = rw (files-pass, scenario-is, book-reads .table, child-month-passes)
+
+pub something-accepted : SomethingAccepted
+something-accepted =
+    record {
+      site = site-passes;
+      book = book-reads .refusal;
+      birth = ap (λ (x : BirthAnswer). x .refusal) birth-is;
+      month = rw birth-is (month-refusal stepsADay child witnessFiles ∙ month-passes);
+      uptake = rw (scenario-is, book-reads .table) uptake-is;
+    }

@@ -1,0 +1,75 @@
+-- Something is accepted: files whose birth and first month are accepted, with an uptake that is not 0, so that no law speaks of nothing.
+-- Assumes nothing.
+use Prim.Native.Nat.{ℕ, _*_, _/_, _%_}
+use mathlib.Core.Path.{_≡_}
+use mathlib.Core.List.{List, [], _∷_, _++_}
+use lib.ListN.{getD, replicate}
+use Rattle.numbers.specs.Choice.{tab}
+use Rattle.block.specs.Block.{byteAt, blockBytes}
+use Rattle.block.specs.Writer.{sealed, bodyOf}
+use Rattle.site.specs.Fields.{ages}
+use Rattle.site.specs.Site.{siteForm, siteRefusal}
+use Rattle.row.specs.Row.{unit, numbersARow}
+use Rattle.book.specs.Book.{bookBytes, tableNumbers, bookForm, bookRefusal}
+use Rattle.book.specs.Laws.{blockPart}
+use Rattle.steps.specs.Steps.{stepsADay}
+use Rattle.child.specs.Month.{monthUptake}
+use Rattle.files.specs.Files.{Files, filesOf, scenarioIn, tableIn}
+use Rattle.engine.specs.Birth.{birthOf}
+use Rattle.engine.specs.Month.{monthOf}
+
+-- a diet of 2,700,000 pg a day, all of it absorbable and 20 % passively, a saturation of 24,300,000 and a mother with 1,000; all else 0
+unfoldable pub witnessFields : List ℕ
+witnessFields =
+    replicate (4 * ages) 0
+    ++ (replicate ages 2_700_000
+    ++ (replicate (5 * ages) 0
+    ++ (replicate 12 0 ++ (100 ∷ 0 ∷ 0 ∷ 0 ∷ 0 ∷ 20 ∷ 0 ∷ 0 ∷ 0 ∷ 0 ∷ 24_300_000 ∷ 1_000 ∷ []))))
+
+-- every row of the book: VB 2,000, VP 1,000, W 12,000, kidney 20 g, a1 = 1, au = D; all else 0
+unfoldable pub witnessRow : List ℕ
+witnessRow =
+    2_000
+    ∷ 1_000
+    ∷ 12_000
+    ∷ 20
+    ∷ 0
+    ∷ 0
+    ∷ 0
+    ∷ 0
+    ∷ 1
+    ∷ 0
+    ∷ 0
+    ∷ 0
+    ∷ 0
+    ∷ 0
+    ∷ unit
+    ∷ 0
+    ∷ 0
+    ∷ 0
+    ∷ 0
+    ∷ 0
+    ∷ 0
+    ∷ 0
+    ∷ 0
+    ∷ []
+
+unfoldable pub witnessTable : List ℕ
+witnessTable = tab tableNumbers (λ (j : ℕ). getD witnessRow (j % numbersARow) 0)
+
+-- the bytes: fields and rows laid out and sealed, block by block
+unfoldable pub witnessBlock : ℕ → List ℕ
+witnessBlock n = sealed (bodyOf (bookForm n) (blockPart witnessTable n))
+
+unfoldable pub witnessFiles : Files
+witnessFiles =
+    filesOf (sealed (bodyOf siteForm witnessFields))
+    (tab bookBytes (λ (j : ℕ). byteAt (witnessBlock (j / blockBytes)) (j % blockBytes)))
+
+-- they are accepted, by the readers, at birth and in the first month, whose T is not 0
+pub record SomethingAccepted : Type 0 where
+  pub site : siteRefusal (witnessFiles .site) ≡ 0
+  pub book : bookRefusal (witnessFiles .book) ≡ 0
+  pub birth : birthOf witnessFiles .refusal ≡ 0
+  pub month : monthOf stepsADay (birthOf witnessFiles .state) witnessFiles .refusal ≡ 0
+  pub uptake : monthUptake (scenarioIn witnessFiles) (tableIn witnessFiles) 1 ≡ 2_484_000

@@ -1,0 +1,76 @@
+-- THE DELIVERY: every law that is promised, demand by demand, as one record. Its proof is one record of citations (proofs/Delivery.antt).
+-- What each open call answers and leaves is promised beside these, by the equations of its contract; docs/promises.txt lists both.
+-- Assumes nothing.
+use Prim.Native.Nat.{ℕ}
+use Rattle.site.specs.Laws as site
+use Rattle.exposure.specs.declared.Exposure.{Exposure}
+use Rattle.exposure.specs.Laws as exposure
+use Rattle.row.specs.Laws as row
+use Rattle.book.specs.Laws as book
+use Rattle.intake.specs.Laws as intake
+use Rattle.uptake.specs.Laws as uptake
+use Rattle.margin.specs.Laws as margin
+use Rattle.blood.specs.Laws as blood
+use Rattle.steps.specs.Laws as steps
+use Rattle.conservation.specs.Conservation as conservation
+use Rattle.conservation.specs.Laws as calls
+use Rattle.conservation.specs.Bench as bench
+use Rattle.conservation.specs.Witness as witness
+use Rattle.jurengate.specs.Laws as words
+use Rattle.text.specs.Laws as text
+use Rattle.printout.specs.Laws as printout
+use Rattle.printout.specs.Bench as lines
+
+pub record Delivery : Type 0 where
+  -- DEMAND 1. A site file, rate book or child's state of any length and content is either run or refused with the exact number
+  -- what passes is within its limits: the exposures, the mother's blood lead, each row
+  pub exposure-within : exposure.ExposureWithin
+  pub mother-within : site.MotherWithin
+  pub row-within : row.RowWithin
+  pub rows-within : book.RowsWithin
+  -- 9 if and only if an air, water, soil or dust intake is over 10^9
+  pub nine : (e : Exposure) → intake.RefusalLaw e
+  -- after an accepted birth never 20; a run is birth and month calls, and is never refused with 20 or 21
+  pub never-20 : calls.StateLaw
+  pub run-is-calls : calls.RunLaws
+  -- something is accepted: some files, their birth and their first month, with T not 0
+  pub something-accepted : witness.SomethingAccepted
+  -- DEMAND 2. Intake, uptake, birth, every step and the blood figure equal the equations, rounding included
+  -- the bench table as a whole
+  pub bench-figures : bench.BenchFigures
+  -- a month's age is one of the site file's; SAT+A is never 0; nothing is taken up that was not taken in; T is at most 6 × 10^9
+  pub age : uptake.AgeLaw
+  pub saturation : (e : Exposure) (weight weight24 : ℕ) → uptake.SaturationLaw e weight weight24
+  pub media : (e : Exposure) (weight weight24 : ℕ) → uptake.MediumLaws e weight weight24
+  pub air : (e : Exposure) → uptake.AirLaw e
+  pub day : (e : Exposure) (weight weight24 : ℕ) → uptake.DayLaw e weight weight24
+  -- the steps of a day absorb T together
+  pub shares : steps.ShareLaws
+  -- plasma and red cells at birth are the blood total; the blood figure is at most 50,000,000
+  pub birth : blood.BirthLaws
+  pub blood-figure : blood.BloodLaw
+  -- a block written from fields within limits reads back as those fields; only a block with the right check is read
+  pub site-right-check : site.RightCheck
+  pub site-body : site.BodyReadBack
+  pub site-fields : site.FieldsReadBack
+  pub book-right-checks : book.RightChecks
+  pub book-body : book.BodyReadBack
+  pub book-numbers : book.NumbersReadBack
+  pub book-blocks : book.WholeBook
+  pub book-whole : book.BookReadBack
+  -- the words of a state and the state of words undo each other
+  pub words-of-state : words.WordsLaw
+  pub state-of-words : words.StateWordsLaw
+  -- the printout: its digits, its lines, the bytes that are enough to read, and the lines that document 01 shows
+  pub decimals : text.DecimalLaw
+  pub printed-lines : printout.LinesLaw
+  pub first-bytes : printout.FirstBytesLaw
+  pub shown-lines : lines.Bench
+  -- DEMAND 3. Over any list of month calls, refused ones among them: lead balances to the picogram between any two month ends, each ledger grows
+  -- by its own exits, and after every step plasma lies within the stated margin of the exact backward Euler solution
+  pub from-birth : conservation.FromBirth
+  pub from-any-state : conservation.Demand3
+  -- the exact solution is a fraction; a step loses and makes no lead, and keeps its margin
+  pub solution : margin.SolutionLaws
+  pub lead : margin.LeadLaws
+  pub step : margin.StepLaws
