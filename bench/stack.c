@@ -9,21 +9,21 @@
 #include "jurengate.h"
 
 enum { STACK_BYTES = 1 << 20, PAGE_BYTES = 4096, PAINT = 0xA5 };
-enum { BODY_BYTES = 508, SITE_BYTES = 512, SITE_FIELDS = 94, BOOK_BYTES = 8704, TABLE_NUMBERS = 1955 };
-enum { MONTHS = 84, STATE_WORDS = 11 };
 
-static uint8_t site[SITE_BYTES], book[BOOK_BYTES];
-static uint64_t state[STATE_WORDS];
-static uint32_t figures[MONTHS], fields[SITE_FIELDS], table[TABLE_NUMBERS], blood, months, refusal;
-static uint8_t target[SITE_BYTES];
+static uint8_t site[JURENGATE_SITE_BYTES], book[JURENGATE_BOOK_BYTES], target[JURENGATE_BLOCK_BYTES];
+static uint64_t state[JURENGATE_STATE_WORDS];
+static uint32_t fields[JURENGATE_SITE_FIELDS], table[JURENGATE_TABLE_NUMBERS];
+static uint32_t figures[JURENGATE_MONTHS], blood, months, refusal;
 
 static void nothing(void) {}
 static void read_site(void) { refusal = jurengate_read_site(site, sizeof site, fields); }
 static void read_book(void) { refusal = jurengate_read_book(book, sizeof book, table); }
-static void write_block(void) { refusal = jurengate_write_block(site, BODY_BYTES, target, sizeof target); }
+static void write_block(void) { refusal = jurengate_write_block(site, JURENGATE_BODY_BYTES, target, sizeof target); }
 static void birth(void) { refusal = jurengate_birth(site, sizeof site, book, sizeof book, state); }
 static void month(void) { refusal = jurengate_month(site, sizeof site, book, sizeof book, state, &blood); }
-static void run(void) { refusal = jurengate_run(site, sizeof site, book, sizeof book, figures, MONTHS, state, &months); }
+static void run(void) {
+    refusal = jurengate_run(site, sizeof site, book, sizeof book, figures, JURENGATE_MONTHS, state, &months);
+}
 
 static uint8_t *stack;
 

@@ -6,11 +6,9 @@
 
 #include "jurengate.h"
 
-enum { SITE_BYTES = 512, BOOK_BYTES = 8704, MONTHS = 84, STATE_WORDS = 11 };
-
 /* One byte more than the format, so that a longer file has a length that is refused. */
-static uint8_t site[SITE_BYTES + 1];
-static uint8_t book[BOOK_BYTES + 1];
+static uint8_t site[JURENGATE_SITE_BYTES + 1];
+static uint8_t book[JURENGATE_BOOK_BYTES + 1];
 
 static size_t read_card(const char *name, uint8_t *buffer, size_t size) {
     FILE *file = fopen(name, "rb");
@@ -30,14 +28,14 @@ int main(int argc, char **argv) {
     size_t site_len = read_card(argv[1], site, sizeof site);
     size_t book_len = read_card(argv[2], book, sizeof book);
 
-    uint64_t state[STATE_WORDS];
-    uint32_t figures[MONTHS];
+    uint64_t state[JURENGATE_STATE_WORDS];
+    uint32_t figures[JURENGATE_MONTHS];
     uint32_t done = 0;
     uint32_t refusal = jurengate_birth(site, site_len, book, book_len, state);
-    while (refusal == 0 && done < MONTHS) {
+    while (refusal == JURENGATE_ACCEPTED && done < JURENGATE_MONTHS) {
         uint32_t blood;
         refusal = jurengate_month(site, site_len, book, book_len, state, &blood);
-        if (refusal == 0) {
+        if (refusal == JURENGATE_ACCEPTED) {
             figures[done] = blood;
             done++;
             printf("%u %u\n", (unsigned)done, (unsigned)blood);
@@ -45,10 +43,11 @@ int main(int argc, char **argv) {
     }
     printf("refusal %u after %u\n", (unsigned)refusal, (unsigned)done);
 
-    uint64_t run_state[STATE_WORDS];
-    uint32_t run_figures[MONTHS];
+    uint64_t run_state[JURENGATE_STATE_WORDS];
+    uint32_t run_figures[JURENGATE_MONTHS];
     uint32_t run_done;
-    uint32_t run_refusal = jurengate_run(site, site_len, book, book_len, run_figures, MONTHS, run_state, &run_done);
+    uint32_t run_refusal =
+        jurengate_run(site, site_len, book, book_len, run_figures, JURENGATE_MONTHS, run_state, &run_done);
     if (run_refusal != refusal || run_done != done || memcmp(run_figures, figures, done * sizeof figures[0]) != 0
         || memcmp(run_state, state, sizeof state) != 0) {
         fprintf(stderr, "the run differs from the month calls\n");

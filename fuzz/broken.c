@@ -27,26 +27,27 @@ static volatile uint8_t sink;
 
 uint32_t __wrap_jurengate_read_site(const uint8_t *site, size_t site_len, uint32_t *fields) {
     uint32_t number = __real_jurengate_read_site(site, site_len, fields);
-    if (fault_is(1) && number == 1) {
+    if (fault_is(1) && number == JURENGATE_WRONG_LENGTH) {
         sink = site[site_len]; /* reads one byte past a file of a wrong length */
     }
-    if (fault_is(2) && number == 7) {
-        fields[93] = 1; /* leaves a field of a refused file */
+    if (fault_is(2) && number == JURENGATE_FIELD_OUTSIDE_LIMITS) {
+        fields[JURENGATE_SITE_MOTHER] = 1; /* leaves a field of a refused file */
     }
     return number;
 }
 
 uint32_t __wrap_jurengate_read_book(const uint8_t *book, size_t book_len, uint32_t *table) {
     uint32_t number = __real_jurengate_read_book(book, book_len, table);
-    if (fault_is(3) && number == 0 && table[84 * 23] == 60000) {
-        table[84 * 23]--; /* the last month's blood volume, at its limit */
+    uint32_t *last_volume = &table[JURENGATE_MONTHS * JURENGATE_ROW_NUMBERS + JURENGATE_ROW_BLOOD_VOLUME];
+    if (fault_is(3) && number == JURENGATE_ACCEPTED && *last_volume == 60000) {
+        --*last_volume; /* the last month's blood volume, at its limit */
     }
     return number;
 }
 
 uint32_t __wrap_jurengate_write_block(const uint8_t *body, size_t body_len, uint8_t *target, size_t target_len) {
     uint32_t number = __real_jurengate_write_block(body, body_len, target, target_len);
-    if (fault_is(4) && number == 1 && body_len == 508) {
+    if (fault_is(4) && number == JURENGATE_WRONG_LENGTH && body_len == JURENGATE_BODY_BYTES) {
         target[target_len] = 0; /* writes one byte past a target of a wrong length */
     }
     return number;
@@ -54,21 +55,21 @@ uint32_t __wrap_jurengate_write_block(const uint8_t *body, size_t body_len, uint
 
 uint32_t __wrap_jurengate_birth(const uint8_t *site, size_t site_len, const uint8_t *book, size_t book_len, uint64_t *state) {
     uint32_t number = __real_jurengate_birth(site, site_len, book, book_len, state);
-    if (fault_is(5) && number == 22) {
-        state[-1] = state[0]; /* writes before the state of a refused birth */
+    if (fault_is(5) && number == JURENGATE_BURDEN_TOO_LARGE) {
+        state[-1] = state[JURENGATE_STATE_MONTH]; /* writes before the state of a refused birth */
     }
     return number;
 }
 
 uint32_t __wrap_jurengate_month(const uint8_t *site, size_t site_len, const uint8_t *book, size_t book_len, uint64_t *state,
                                 uint32_t *blood) {
-    uint64_t month = state[0];
+    uint64_t month = state[JURENGATE_STATE_MONTH];
     uint32_t number = __real_jurengate_month(site, site_len, book, book_len, state, blood);
-    if (fault_is(6) && number == 0 && month == 83) {
-        state[6]++; /* one pg of trabecular lead from nowhere, in the last month alone */
+    if (fault_is(6) && number == JURENGATE_ACCEPTED && month == JURENGATE_MONTHS - 1) {
+        state[JURENGATE_STATE_TRABECULAR]++; /* one pg of trabecular lead from nowhere, in the last month alone */
     }
-    if (fault_is(7) && number == 20 && month == 84) {
-        return 21; /* the order of 20 and 21 */
+    if (fault_is(7) && number == JURENGATE_NO_STATE && month == JURENGATE_MONTHS) {
+        return JURENGATE_LAST_MONTH_DONE; /* the order of 20 and 21 */
     }
     return number;
 }
@@ -76,7 +77,7 @@ uint32_t __wrap_jurengate_month(const uint8_t *site, size_t site_len, const uint
 uint32_t __wrap_jurengate_run(const uint8_t *site, size_t site_len, const uint8_t *book, size_t book_len, uint32_t *blood,
                               size_t blood_len, uint64_t *state, uint32_t *months) {
     uint32_t number = __real_jurengate_run(site, site_len, book, book_len, blood, blood_len, state, months);
-    if (fault_is(8) && number == 9 && *months > 0) {
+    if (fault_is(8) && number == JURENGATE_INTAKE_TOO_LARGE && *months > 0) {
         blood[*months] = 0; /* the figure of the refused month */
     }
     return number;

@@ -2,12 +2,12 @@
 #ifndef JURENGATE_FUZZ_CASE_H
 #define JURENGATE_FUZZ_CASE_H
 
-#include <stddef.h>
-#include <stdint.h>
+#include "jurengate.h"
 
 enum call { READ_SITE, READ_BOOK, WRITE_BLOCK, BIRTH, MONTH, RUN, CALLS };
 
-enum { STATE_WORDS = 11, SITE_FIELDS = 94, TABLE_NUMBERS = 1955, SITE_ROOM = 1024, BOOK_ROOM = 9728 };
+/* Room for files longer than they should be. */
+enum { SITE_ROOM = 2 * JURENGATE_BLOCK_BYTES, BOOK_ROOM = (JURENGATE_BOOK_BLOCKS + 2) * JURENGATE_BLOCK_BYTES };
 
 struct fuzz_case {
     uint32_t call;
@@ -15,20 +15,21 @@ struct fuzz_case {
     size_t site_len; /* for the writer: of its body */
     size_t book_len;
     size_t list_len; /* of the run's list, in figures; of the writer's target, in bytes */
-    uint64_t state[STATE_WORDS];
+    uint64_t state[JURENGATE_STATE_WORDS];
     uint8_t site[SITE_ROOM];
     uint8_t book[BOOK_ROOM];
 };
 
 void fuzz_case_of(const uint8_t *input, size_t size, struct fuzz_case *asked);
 
-uint32_t model_read_site(const uint8_t *site, size_t site_len, uint32_t fields[SITE_FIELDS]);
-uint32_t model_read_book(const uint8_t *book, size_t book_len, uint32_t table[TABLE_NUMBERS]);
+uint32_t model_read_site(const uint8_t *site, size_t site_len, uint32_t fields[JURENGATE_SITE_FIELDS]);
+uint32_t model_read_book(const uint8_t *book, size_t book_len, uint32_t table[JURENGATE_TABLE_NUMBERS]);
 uint32_t model_write_block(const uint8_t *body, size_t body_len, uint8_t *target, size_t target_len);
-uint32_t model_birth(const uint8_t *site, size_t site_len, const uint8_t *book, size_t book_len, uint64_t state[STATE_WORDS]);
-uint32_t model_month(const uint8_t *site, size_t site_len, const uint8_t *book, size_t book_len, uint64_t state[STATE_WORDS],
-                     uint32_t *blood);
+uint32_t model_birth(const uint8_t *site, size_t site_len, const uint8_t *book, size_t book_len,
+                     uint64_t state[JURENGATE_STATE_WORDS]);
+uint32_t model_month(const uint8_t *site, size_t site_len, const uint8_t *book, size_t book_len,
+                     uint64_t state[JURENGATE_STATE_WORDS], uint32_t *blood);
 uint32_t model_run(const uint8_t *site, size_t site_len, const uint8_t *book, size_t book_len, uint32_t *blood, size_t blood_len,
-                   uint64_t state[STATE_WORDS], uint32_t *months);
+                   uint64_t state[JURENGATE_STATE_WORDS], uint32_t *months);
 
 #endif

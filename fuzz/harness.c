@@ -13,7 +13,10 @@
 
 enum memory { SITE, BOOK, STATE, LIST, FIGURE, MEMORIES };
 
-enum { PAGE = 4096, OPEN_BYTES = 3 * PAGE, PAINT = 0xA5, FILLER = 0x5A, NUMBERS = 23, MONTHS = 84 };
+enum { PAGE = 4096, OPEN_BYTES = 3 * PAGE, PAINT = 0xA5, FILLER = 0x5A };
+
+/* The refusal numbers, 0 to the highest. */
+enum { NUMBERS = JURENGATE_BURDEN_TOO_LARGE + 1 };
 
 struct lent {
     uint8_t *open; /* OPEN_BYTES between two closed pages */
@@ -30,21 +33,24 @@ static const char *const call_names[CALLS] = {"read_site", "read_book", "write_b
 static const char *const memory_names[MEMORIES] = {"site", "book", "state", "list", "figure"};
 
 /* The numbers that each call can answer, a bit for each. */
-#define BLOCK_NUMBERS (1u << 0 | 1u << 1 | 1u << 3 | 1u << 4 | 1u << 5 | 1u << 6)
-#define FILE_NUMBERS (BLOCK_NUMBERS | 1u << 7 | 1u << 8)
+#define BIT(number) (1u << JURENGATE_##number)
+#define LENGTH_NUMBERS (BIT(ACCEPTED) | BIT(WRONG_LENGTH))
+#define BLOCK_NUMBERS \
+    (LENGTH_NUMBERS | BIT(CHECK_WRONG) | BIT(EDITION_WRONG) | BIT(NUMBER_WRONG) | BIT(RESERVED_NOT_ZERO))
+#define FILE_NUMBERS (BLOCK_NUMBERS | BIT(FIELD_OUTSIDE_LIMITS) | BIT(ROW_OUTSIDE_LIMITS))
 static const uint32_t answerable[CALLS] = {
-    [READ_SITE] = BLOCK_NUMBERS | 1u << 7,
-    [READ_BOOK] = BLOCK_NUMBERS | 1u << 8,
-    [WRITE_BLOCK] = 1u << 0 | 1u << 1,
-    [BIRTH] = FILE_NUMBERS | 1u << 22,
-    [MONTH] = FILE_NUMBERS | 1u << 9 | 1u << 20 | 1u << 21 | 1u << 22,
-    [RUN] = FILE_NUMBERS | 1u << 2 | 1u << 9 | 1u << 22,
+    [READ_SITE] = BLOCK_NUMBERS | BIT(FIELD_OUTSIDE_LIMITS),
+    [READ_BOOK] = BLOCK_NUMBERS | BIT(ROW_OUTSIDE_LIMITS),
+    [WRITE_BLOCK] = LENGTH_NUMBERS,
+    [BIRTH] = FILE_NUMBERS | BIT(BURDEN_TOO_LARGE),
+    [MONTH] = FILE_NUMBERS | BIT(INTAKE_TOO_LARGE) | BIT(NO_STATE) | BIT(LAST_MONTH_DONE) | BIT(BURDEN_TOO_LARGE),
+    [RUN] = FILE_NUMBERS | BIT(WRONG_LIST_LENGTH) | BIT(INTAKE_TOO_LARGE) | BIT(BURDEN_TOO_LARGE),
 };
 
 static uint64_t met[CALLS][NUMBERS];
 
 /* What the engine answers guides the fuzzer too. */
-__attribute__((section("__libfuzzer_extra_counters"))) static uint8_t seen[CALLS][NUMBERS][MONTHS + 1];
+__attribute__((section("__libfuzzer_extra_counters"))) static uint8_t seen[CALLS][NUMBERS][JURENGATE_MONTHS + 1];
 
 struct calls {
     uint32_t (*read_site)(const uint8_t *, size_t, uint32_t *);
@@ -76,8 +82,8 @@ static uint32_t answer(const struct calls *by, uint8_t *const at[MEMORIES]) {
 
 static size_t list_bytes(void) {
     switch (asked.call) {
-    case READ_SITE: return SITE_FIELDS * sizeof(uint32_t);
-    case READ_BOOK: return TABLE_NUMBERS * sizeof(uint32_t);
+    case READ_SITE: return JURENGATE_SITE_FIELDS * sizeof(uint32_t);
+    case READ_BOOK: return JURENGATE_TABLE_NUMBERS * sizeof(uint32_t);
     case RUN: return asked.list_len * sizeof(uint32_t);
     default: return asked.list_len;
     }
@@ -126,8 +132,8 @@ static void count(uint32_t number) {
     uint32_t months = 0;
     if (asked.call == RUN) {
         memcpy(&months, lent[FIGURE].due, sizeof months);
-    } else if (asked.call == MONTH && number != 20) {
-        months = (uint32_t)asked.state[0] % (MONTHS + 1);
+    } else if (asked.call == MONTH && number != JURENGATE_NO_STATE) {
+        months = (uint32_t)asked.state[JURENGATE_STATE_MONTH] % (JURENGATE_MONTHS + 1);
     }
     met[asked.call][number]++;
     seen[asked.call][number][months]++;

@@ -1,4 +1,4 @@
-//! `bench/stack.c`, built and run on the default card: every call is accepted, and the run's stack stays within its goal.
+//! `bench/stack.c`, built and run on the default card: every call is accepted and stays within its stack.
 
 #[path = "support/c_program.rs"]
 mod c_program;
@@ -6,14 +6,17 @@ mod c_program;
 mod folder;
 #[path = "support/repository.rs"]
 mod repository;
+#[path = "support/stack_bounds.rs"]
+mod stack_bounds;
 
 use folder::Folder;
 use jurengate_model::book::{BOOK_ROWS, ROW_FIELDS};
 use jurengate_model::cards::{curves, published};
+use stack_bounds::STACK_BOUNDS;
 use std::process::Command;
 
-/// Stack that the run must stay under, a quarter of the box's memory.
-const RUN_STACK: usize = 16 * 1024;
+/// Stack that no call may reach, a quarter of the box's memory.
+const BOX_STACK: usize = 16 * 1024;
 /// The book's table, which the run keeps on its stack: a smaller figure measures nothing.
 const TABLE_BYTES: usize = 4 * BOOK_ROWS * ROW_FIELDS;
 
@@ -26,18 +29,35 @@ fn measured(line: &str) -> (String, usize, u32) {
     (name.to_string(), bytes.parse().expect("a count of bytes"), refusal.parse().expect("a refusal number"))
 }
 
-#[test]
-fn the_run_keeps_to_its_stack() {
+/// What `bench/stack.c` measures on the default card.
+fn measure() -> Vec<(String, usize, u32)> {
     let folder = Folder::new("stack");
     let program = folder.path().join("stack");
     c_program::build("bench/stack.c", &["-lpthread"], &program);
     let card = [folder.write("site", &published::site()), folder.write("book", &curves::book())];
     let output = Command::new(&program).args(card).output().expect("the measurement runs");
     assert!(output.status.success(), "{}", String::from_utf8_lossy(&output.stderr));
-    let lines = String::from_utf8(output.stdout).expect("text");
-    let calls: Vec<_> = lines.lines().map(measured).collect();
-    let names: Vec<&str> = calls.iter().map(|call| call.0.as_str()).collect();
-    assert_eq!(names, ["read_site", "read_book", "write_block", "birth", "month", "run"]);
-    assert!(calls.iter().all(|call| call.2 == 0), "{lines}");
-    assert!((TABLE_BYTES..RUN_STACK).contains(&calls[5].1), "{lines}");
+    String::from_utf8(output.stdout).expect("text").lines().map(measured).collect()
+}
+
+#[test]
+fn every_call_keeps_to_its_stack() {
+    let calls = measure();
+    assert_eq!(calls.len(), STACK_BOUNDS.len());
+    for ((name, bytes, refusal), (due, bound)) in calls.iter().zip(STACK_BOUNDS) {
+        assert_eq!((name.as_str(), *refusal), (due, 0));
+        assert!(*bytes > 0, "jurengate_{name}: no stack at all was measured");
+        assert!(
+            *bytes <= bound,
+            "jurengate_{name} has grown: it took {bytes} bytes of stack and may take {bound}"
+        );
+    }
+    assert!(calls[5].1 >= TABLE_BYTES, "the run took {} bytes of stack, less than its table", calls[5].1);
+}
+
+#[test]
+fn no_bound_reaches_a_quarter_of_the_box() {
+    for (name, bound) in STACK_BOUNDS {
+        assert!(bound < BOX_STACK, "{name}");
+    }
 }

@@ -5,19 +5,29 @@ use std::env;
 use std::path::{Path, PathBuf};
 use std::process::Command;
 
-/// Builds a source of the repository; `libraries` are the options that follow the engine's library.
-pub fn build(source: &str, libraries: &[&str], program: &Path) {
+/// The engine's static library.
+pub fn library() -> PathBuf {
     let folder = env::var_os("JURENGATE_LIB_DIR");
-    let folder = folder.map_or_else(|| repository::at("target/staticlib"), PathBuf::from);
+    folder.map_or_else(|| repository::at("target/staticlib"), PathBuf::from).join("libjurengate.a")
+}
+
+/// Builds a source of the repository; `libraries` are the options that follow the engine's library.
+#[allow(dead_code)] // the header's tests have sources of their own
+pub fn build(source: &str, libraries: &[&str], program: &Path) {
+    build_at(&repository::at(source), libraries, program);
+}
+
+/// Builds a source at any path.
+pub fn build_at(source: &Path, libraries: &[&str], program: &Path) {
     let status = Command::new("cc")
         .args(["-std=c99", "-Wall", "-Wextra", "-Werror", "-O2", "-I"])
         .arg(repository::at("include"))
-        .arg(repository::at(source))
-        .arg(folder.join("libjurengate.a"))
+        .arg(source)
+        .arg(library())
         .args(libraries)
         .arg("-o")
         .arg(program)
         .status()
         .expect("the C compiler runs");
-    assert!(status.success(), "{source} is built");
+    assert!(status.success(), "{} is built", source.display());
 }

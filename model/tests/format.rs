@@ -1,0 +1,222 @@
+//! The tables of `docs/FORMAT.md`, held to the model.
+
+#[path = "support/limits.rs"]
+mod limits;
+#[path = "support/places.rs"]
+mod places;
+#[path = "support/repository.rs"]
+mod repository;
+
+use jurengate_model::block::{
+    check_of, field, word16, word32, BLOCK_BYTES, BODY_BYTES, FIELDS_AT, FIELD_BYTES,
+};
+use jurengate_model::book::{self, column, Row, RowFields, BLOCK_FIELDS, BLOCK_ROWS, ROW_FIELDS};
+use jurengate_model::cards::{block_of, curves, published};
+use jurengate_model::figures::KEYS;
+use jurengate_model::refusal::{Refusal, ACCEPTED};
+use jurengate_model::site::{self, SITE_FIELDS};
+use limits::{are_row_ends, are_site_ends, number, BLOOD_VOLUME_MOST};
+use places::{Place, ROW, SITE};
+use std::fs;
+
+/// A row of a markdown table, cell by cell.
+type Cells = Vec<String>;
+
+fn format() -> String {
+    fs::read_to_string(repository::at("docs/FORMAT.md")).expect("the format's page")
+}
+
+/// The rows of the table whose head begins with these cells, without head and rule.
+fn table(page: &str, head: &[&str]) -> Vec<Cells> {
+    let start = format!("| {} |", head.join(" | "));
+    let mut lines = page.lines().skip_while(|line| !line.starts_with(&start));
+    assert!(lines.next().is_some(), "no table {head:?}");
+    let rows = lines.skip(1).take_while(|line| line.starts_with('|'));
+    rows.map(|line| line.trim_matches('|').split('|').map(|cell| cell.trim().to_string()).collect()).collect()
+}
+
+/// `4–31` as its two ends; a single number is both.
+fn ends(cell: &str) -> (usize, usize) {
+    let (first, last) = cell.split_once('–').unwrap_or((cell, cell));
+    (first.parse().expect(cell), last.parse().expect(cell))
+}
+
+fn count(cell: &str) -> u32 {
+    number(cell).unwrap_or_else(|| panic!("`{cell}` is not a number"))
+}
+
+/// The bytes that fields take, counted from where their first one may stand.
+fn bytes_of(start: usize, first: usize, fields: usize) -> (usize, usize) {
+    let from = start + FIELD_BYTES * first;
+    (from, from + FIELD_BYTES * fields - 1)
+}
+
+/// Checks that the places follow each other without a gap up to the end.
+fn assert_gapless(places: &[Place], end: usize) {
+    let mut next = 0;
+    for (name, place, count) in places {
+        assert_eq!(*place, next, "{name}");
+        next += count;
+    }
+    assert_eq!(next, end);
+}
+
+#[test]
+fn the_names_are_those_of_the_figures() {
+    assert_gapless(&SITE, SITE_FIELDS);
+    assert_gapless(&ROW, ROW_FIELDS);
+    assert_eq!(KEYS.map(|key| key.name), SITE.map(|place| place.0));
+}
+
+#[test]
+fn the_site_fields_are_the_models() {
+    let rows = table(&format(), &["bytes", "fields", "name", "unit", "least", "most", "what"]);
+    assert_eq!(rows.len(), SITE.len());
+    for (cells, (name, place, fields)) in rows.iter().zip(SITE) {
+        assert_eq!(cells[2], format!("`{name}`"));
+        assert_eq!(ends(&cells[0]), bytes_of(FIELDS_AT, place, fields), "{name}");
+        assert_eq!(ends(&cells[1]), (place, place + fields - 1), "{name}");
+        let (least, most) = (count(&cells[4]), count(&cells[5]));
+        for field in place..place + fields {
+            assert_eq!((least, most), (site::least(field), site::most(field)), "{name}");
+            assert!(are_site_ends(field, least, most), "{name}");
+        }
+    }
+}
+
+#[test]
+fn the_row_numbers_are_the_models() {
+    let page = format();
+    let rows = table(&page, &["bytes of the row", "number", "name", "sign", "unit", "least", "most", "what"]);
+    assert_eq!(rows.len(), ROW.len());
+    for (cells, (name, place, _)) in rows.iter().zip(ROW) {
+        assert_eq!(cells[2], format!("`{name}`"));
+        assert_eq!(ends(&cells[0]), bytes_of(0, place, 1), "{name}");
+        assert_eq!(ends(&cells[1]), (place, place), "{name}");
+        let most = if cells[6] == "VB − 1" { BLOOD_VOLUME_MOST - 1 } else { count(&cells[6]) };
+        assert!(are_row_ends(place, count(&cells[5]), most), "{name}");
+    }
+}
+
+/// Whether a row passes with these numbers, each beside its place.
+fn fits(numbers: &[(usize, u32)]) -> bool {
+    let mut row: RowFields = [0; ROW_FIELDS];
+    (row[column::VB], row[column::VP], row[column::BODY], row[column::OUT]) = (1_000, 999, 2_000, 1);
+    for (place, value) in numbers {
+        row[*place] = *value;
+    }
+    Row::of_fields(&row).within_limits()
+}
+
+#[test]
+fn the_sums_of_a_row_are_the_models() {
+    let rows = table(&format(), &["sum", "most"]);
+    let most = |index: usize| rows[index][1].replace(',', "").parse::<u64>().expect("a number");
+    assert_eq!(rows.len(), 3);
+    let rest = u32::try_from(most(0) - u64::from(u32::MAX)).expect("two rates reach the sum");
+    for place in column::OUT + 1..=column::URINE {
+        assert!(
+            fits(&[(column::OUT, u32::MAX), (place, rest)])
+                && !fits(&[(column::OUT, u32::MAX), (place, rest + 1)])
+        );
+    }
+    for (index, back, exit) in [(1, column::BACK + 1, column::FAECES), (2, column::BACK + 3, column::SKIN)] {
+        let rest = most(index) as u32 - 7;
+        assert!(fits(&[(back, rest), (exit, 7)]) && !fits(&[(back, rest + 1), (exit, 7)]));
+    }
+    assert!(fits(&[(column::VP, 999)]) && !fits(&[(column::VP, 1_000)]));
+}
+
+/// The byte of a number of a row, as the page's formula has it.
+fn book_byte(month: usize, number: usize) -> usize {
+    512 * (month / 5) + 4 + 92 * (month % 5) + 4 * number
+}
+
+#[test]
+fn the_formula_finds_every_number_of_a_book() {
+    assert!(format().contains("\n    512 × floor(m / 5) + 4 + 92 × (m mod 5) + 4 × j\n"));
+    let (file, rows) = (curves::book(), book::read_table(&curves::book()).expect("a good book"));
+    for (month, row) in rows.iter().enumerate() {
+        for (number, value) in row.iter().enumerate() {
+            assert_eq!(word32(&file, book_byte(month, number)), *value);
+        }
+    }
+}
+
+#[test]
+fn fields_end_and_reserved_bytes_begin_where_the_page_says() {
+    let page = format();
+    for (fields, words) in [
+        (SITE_FIELDS, "Bytes {first} to {last} are fields, bytes {reserved} to 507 reserved."),
+        (BLOCK_FIELDS, "bytes {first} to {last} of the block;\nbytes {reserved} to 507 are reserved."),
+    ] {
+        let (first, last) = bytes_of(FIELDS_AT, 0, fields);
+        let words = words.replace("{first}", &first.to_string()).replace("{last}", &last.to_string());
+        let words = words.replace("{reserved}", &(last + 1).to_string());
+        assert!(page.contains(&words), "{words}");
+    }
+    assert_eq!((BODY_BYTES, BLOCK_ROWS * ROW_FIELDS), (508, 115));
+}
+
+/// Bytes as the page writes them.
+fn hexadecimal(bytes: &[u8]) -> String {
+    bytes.iter().map(|byte| format!("{byte:02X}")).collect::<Vec<_>>().join(" ")
+}
+
+#[test]
+fn the_worked_check_comes_out() {
+    let rows = table(&format(), &["bytes", "content, hexadecimal", "position", "word", "word × position"]);
+    let block = block_of(3, &[100_000]);
+    let (last, words) = rows.split_last().expect("rows");
+    let mut sum = 0;
+    for cells in &words[..4] {
+        let ((first, end), position) = (ends(&cells[0]), count(&cells[2]));
+        assert_eq!((first, end), (2 * position as usize - 2, 2 * position as usize - 1));
+        assert_eq!(cells[1], hexadecimal(&block[first..=end]));
+        assert_eq!(count(&cells[3]), u32::from(word16(&block, first)));
+        assert_eq!(count(&cells[4]), count(&cells[3]) * position);
+        sum += count(&cells[4]);
+    }
+    assert_eq!((ends(&words[4][0]), ends(&words[4][2])), ((8, BODY_BYTES - 1), (5, BODY_BYTES / 2)));
+    assert!(block[8..BODY_BYTES].iter().all(|byte| *byte == 0));
+    assert_eq!((last[1].as_str(), count(&last[4])), (hexadecimal(&block[BODY_BYTES..]).as_str(), sum));
+    assert_eq!((sum, field(&block, 0)), (check_of(&block), 100_000));
+}
+
+#[test]
+fn the_other_checks_on_the_page_come_out() {
+    let page = format();
+    assert_eq!(check_of(&block_of(0, &[])), 2);
+    assert!(page.contains("A block of zeros with edition 1 has the check 2."));
+    let site = published::site();
+    let bytes = hexadecimal(&site[BODY_BYTES..BLOCK_BYTES]);
+    assert!(page.contains(&format!("has the check 44,952,423, in bytes {bytes}.")));
+    assert_eq!(check_of(&site), 44_952_423);
+}
+
+#[test]
+fn the_refusals_are_the_models() {
+    let due = [
+        Refusal::Length,
+        Refusal::BloodList,
+        Refusal::Check,
+        Refusal::Edition,
+        Refusal::Number,
+        Refusal::Reserved,
+        Refusal::SiteLimits,
+        Refusal::BookLimits,
+        Refusal::Intake,
+        Refusal::NoState,
+        Refusal::LastMonth,
+        Refusal::Burden,
+    ];
+    let due = [vec![ACCEPTED], due.map(Refusal::number).to_vec()].concat();
+    let header = fs::read_to_string(repository::at("include/jurengate.h")).expect("the header");
+    let rows = table(&format(), &["number", "name in `jurengate.h`", "why"]);
+    assert_eq!(rows.iter().map(|cells| count(&cells[0])).collect::<Vec<_>>(), due);
+    for cells in rows {
+        let line = format!("\n    {} = {}", cells[1].trim_matches('`'), cells[0]);
+        let behind = header.split_once(&line).map(|(_, rest)| rest.chars().next());
+        assert!(matches!(behind, Some(Some(',' | ' '))), "{line}");
+    }
+}

@@ -1,0 +1,42 @@
+//! Limits that are written down, held to the model's rules: each end passes, and one step past it is refused.
+
+use jurengate_model::book::{column, Row, RowFields, ROW_FIELDS};
+use jurengate_model::site::{place, within_limits, SATURATION_LEAST, SITE_FIELDS};
+
+/// The largest blood volume of a row.
+pub const BLOOD_VOLUME_MOST: u32 = 60_000;
+
+/// A number with thousands parted by commas.
+pub fn number(text: &str) -> Option<u32> {
+    text.replace(',', "").parse().ok()
+}
+
+/// Whether these are the ends of a number that `fits` takes.
+fn are_ends(least: u32, most: u32, fits: impl Fn(u32) -> bool) -> bool {
+    let below = least.checked_sub(1).is_some_and(&fits);
+    let above = most.checked_add(1).is_some_and(&fits);
+    fits(least) && fits(most) && !below && !above
+}
+
+/// Whether a site field has these ends where every other field leaves it free.
+pub fn are_site_ends(place: usize, least: u32, most: u32) -> bool {
+    are_ends(least, most, |value| {
+        let mut fields = [0; SITE_FIELDS];
+        fields[place::SATURATION] = SATURATION_LEAST;
+        fields[place] = value;
+        within_limits(&fields)
+    })
+}
+
+/// Whether a row's number has these ends where every other number leaves it free.
+pub fn are_row_ends(place: usize, least: u32, most: u32) -> bool {
+    are_ends(least, most, |value| {
+        let mut row: RowFields = [0; ROW_FIELDS];
+        row[column::VB] = BLOOD_VOLUME_MOST;
+        row[column::VP] = 1;
+        row[column::BODY] = 2_000;
+        row[column::OUT] = 1;
+        row[place] = value;
+        Row::of_fields(&row).within_limits()
+    })
+}
