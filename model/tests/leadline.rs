@@ -14,13 +14,19 @@ use jurengate_model::printout::printout;
 use jurengate_model::random::{book, damaged, fault, range, row_faults, site, Fault, Generator, Intake};
 use jurengate_model::site::{place, SATURATION_LEAST, SITE_FIELDS};
 use std::fs::{self, OpenOptions};
-use std::path::Path;
-use std::process::Command;
+use std::io::Write;
+use std::path::{Path, PathBuf};
+use std::process::{Command, Output};
+use std::thread::{self, JoinHandle};
+use std::time::Duration;
 
-/// The program, as the gate leaves it.
+/// Where the gate leaves the program.
+fn built() -> PathBuf {
+    repository::at("target/bin/leadline").canonicalize().expect("rt check leadline has built the program")
+}
+
 fn leadline() -> Command {
-    let built = repository::at("target/bin/leadline");
-    Command::new(built.canonicalize().expect("rt check leadline has built the program"))
+    Command::new(built())
 }
 
 /// What the program prints in a folder.
@@ -88,6 +94,75 @@ fn a_full_device_is_told_on_standard_error() {
         let output = leadline().current_dir(folder.path()).stdout(full).output().expect("the program runs");
         assert!(output.status.code().is_some(), "ended by a signal: {}", output.status);
         assert_eq!(String::from_utf8_lossy(&output.stderr), "leadline: No space left on device\n");
+    }
+}
+
+/// Runs the program in a folder, its standard files changed as a shell writes it: `<&-` closes standard input.
+fn redirected(folder: &Path, redirections: &str) -> Output {
+    let mut shell = Command::new("sh");
+    shell.args(["-c", &format!("exec \"$0\" {redirections}")]).arg(built()).current_dir(folder);
+    shell.output().expect("the shell runs")
+}
+
+/// A closed standard output is told as a full device is, and standard error, closed too, stops nothing.
+#[test]
+fn a_closed_standard_output_is_told_on_standard_error() {
+    let folder = card("closed-output", Some(&published::site()), Some(&curves::book()));
+    let reason = "leadline: Bad file descriptor\n";
+    for (redirections, told) in [(">&-", reason), (">&- 2>&-", ""), ("<&- >&- 2>&-", "")] {
+        let output = redirected(folder.path(), redirections);
+        assert!(output.status.code().is_some(), "{redirections}: ended by a signal: {}", output.status);
+        assert!(output.stdout.is_empty(), "{redirections}");
+        assert_eq!(String::from_utf8_lossy(&output.stderr), told, "{redirections}");
+    }
+}
+
+/// Where standard input is closed, a file is opened as descriptor 0, and read as any other.
+#[test]
+fn a_closed_standard_input_changes_nothing() {
+    let (site, book) = (published::site(), curves::book());
+    for (name, book) in [("closed-input", book.as_slice()), ("closed-input-short", &book[..8703])] {
+        let folder = card(name, Some(&site), Some(book));
+        let output = redirected(folder.path(), "<&-");
+        assert!(output.status.success() && output.stderr.is_empty(), "{name}: {output:?}");
+        let expected = printout(&site, book);
+        assert_eq!(String::from_utf8_lossy(&output.stdout), String::from_utf8_lossy(&expected), "{name}");
+    }
+}
+
+/// Makes a named pipe, and writes bytes into it in two parts: the pause ends the first read after the first part.
+fn pipe(folder: &Folder, file: &str, bytes: &[u8], first: usize) -> JoinHandle<()> {
+    let path = folder.path().join(file);
+    let made = Command::new("mkfifo").arg(&path).status().expect("mkfifo runs");
+    assert!(made.success(), "{file} is made");
+    let bytes = bytes.to_vec();
+    thread::spawn(move || {
+        let mut pipe = OpenOptions::new().write(true).open(path).expect("the pipe has a reader");
+        pipe.write_all(&bytes[..first]).expect("the first part is taken");
+        thread::sleep(Duration::from_millis(200));
+        pipe.write_all(&bytes[first..]).expect("the second part is taken");
+    })
+}
+
+/// A file that comes in parts is read to its end, and a part of the right length is not yet a file of the right length.
+#[test]
+fn files_that_come_through_a_pipe_in_two_parts() {
+    let (site, book) = (published::site(), curves::book());
+    let longer = [book.as_slice(), &[0]].concat();
+    let cards: [(&str, usize, &[u8], usize, usize); 3] = [
+        ("pipe", 100, &book, 5_000, 84),
+        ("pipe-last-byte", 511, &book, 8_703, 84),
+        ("pipe-longer", 100, &longer, 8_704, 1),
+    ];
+    for (name, site_first, book, book_first, lines) in cards {
+        let folder = Folder::new(name);
+        let site_writer = pipe(&folder, "site.lkb", &site, site_first);
+        let book_writer = pipe(&folder, "book.lkb", book, book_first);
+        let (bytes, expected) = (printed(folder.path()), printout(&site, book));
+        assert_eq!(String::from_utf8_lossy(&bytes), String::from_utf8_lossy(&expected), "{name}");
+        assert_eq!(bytes.iter().filter(|byte| **byte == b'\n').count(), lines, "{name}");
+        site_writer.join().expect("the site file was written whole");
+        book_writer.join().expect("the book was written whole");
     }
 }
 

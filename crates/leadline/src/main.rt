@@ -24,21 +24,16 @@ fn read_file(path: &[u8], buffer: &mut [u8]) -> usize
     bytes
 }
 
-// Prints line k, and answers whether it was written; if not, standard error has the reason.
-fn print_line(run: Prepared, k: u32) -> bool {
-    let mut line = [0u8; LINE_BYTES];
-    let bytes = printout::line(run, k, &mut line);
-    let is_written = io::write_all(STDOUT_FILENO, &line[..bytes]);
-    if !is_written {
-        os::fail(b"leadline");
-    }
-    is_written
-}
-
-// Prints each line, up to the first that cannot be written.
+// Prints each line, up to the first that cannot be written; standard error then has the reason.
 fn print_lines(run: Prepared) {
     let mut k: u32 = 0;
-    while k < LINES && print_line(run, k) {
+    while k < LINES {
+        let mut line = [0u8; LINE_BYTES];
+        let bytes = printout::line(run, k, &mut line);
+        if !io::write_all(STDOUT_FILENO, &line[..bytes]) {
+            os::fail(b"leadline");
+            return;
+        }
         k = k + 1;
     }
 }
