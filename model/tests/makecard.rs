@@ -37,10 +37,9 @@ fn printed(told: Told) -> String {
 }
 
 /// What standard error has for a text of figures that is taken.
-fn warnings(figures: &str) -> Vec<String> {
-    let folder = Folder::new("warnings");
+fn warnings(figures: &str, folder: &Folder) -> Vec<String> {
     folder.write("yard.txt", figures.as_bytes());
-    let told = makecard(&["yard.txt", "card"], &folder);
+    let told = makecard(&["yard.txt", "card"], folder);
     assert_eq!(told.status, Some(0), "{}", told.errors);
     assert!(
         stored(&folder.path().join("card"), "site.lkb") == site_file(&site_fields(figures).expect("figures"))
@@ -91,10 +90,10 @@ fn the_printed_defaults_are_the_published_site_with_its_limits() {
 #[test]
 fn no_warning_without_a_reason() {
     let folder = Folder::new("quiet");
-    assert!(warnings(&printed(makecard(&["--defaults"], &folder))).is_empty());
+    assert!(warnings(&printed(makecard(&["--defaults"], &folder)), &folder).is_empty());
     for sample in folders() {
         let figures = String::from_utf8(stored(&sample, "figures.txt")).expect("text");
-        assert!(warnings(&figures).is_empty(), "{}", sample.display());
+        assert!(warnings(&figures, &folder).is_empty(), "{}", sample.display());
     }
     let used = [
         "dust_mode = 0\ndust = 300",
@@ -103,7 +102,7 @@ fn no_warning_without_a_reason() {
         "weight_soil = 0\nsoil = 9",
     ];
     for figures in used {
-        assert!(warnings(figures).is_empty(), "{figures}");
+        assert!(warnings(figures, &folder).is_empty(), "{figures}");
     }
 }
 
@@ -128,8 +127,9 @@ fn a_figure_that_is_not_used_is_warned_of_with_what_to_add() {
         ("absorbed_water = 0\nwater = 5", "line 2: water is not used. For it to count, change line 1 to `absorbed_water = N` with N over 0 %"),
         ("air_absorbed = 0\nbreathing = 5", "line 2: breathing is not used. For it to count, change line 1 to `air_absorbed = N` with N over 0 %"),
     ];
+    let folder = Folder::new("warnings");
     for (figures, due) in cases {
-        let told = warnings(figures);
+        let told = warnings(figures, &folder);
         assert_eq!(told.len(), 1, "{figures}: {told:?}");
         assert!(told[0].starts_with(&format!("makecard: warning: yard.txt: {due}")), "{}", told[0]);
     }
@@ -138,7 +138,7 @@ fn a_figure_that_is_not_used_is_warned_of_with_what_to_add() {
 /// All that is missing is told, and the warnings come in the order of the lines.
 #[test]
 fn several_warnings_and_several_needs() {
-    let told = warnings("flushed = 8\nabsorbed_dust = 0\ndust = 300\n");
+    let told = warnings("flushed = 8\nabsorbed_dust = 0\ndust = 300\n", &Folder::new("several"));
     assert_eq!(told.len(), 2, "{told:?}");
     assert!(told[0].contains("line 1: flushed is not used"));
     assert!(
