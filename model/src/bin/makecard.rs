@@ -114,7 +114,7 @@ fn main() -> ExitCode {
     let arguments: Vec<OsString> = std::env::args_os().skip(1).collect();
     match answer(&arguments) {
         None => misused(PROGRAM, "a text of figures or an option is due", USAGE),
-        Some(Ok(text)) => ended(PROGRAM, print(&text)),
+        Some(Ok(text)) => ended(PROGRAM, print(text)),
         Some(Err(messages)) => {
             for message in messages {
                 eprintln!("{PROGRAM}: {message}");
