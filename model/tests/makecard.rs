@@ -77,7 +77,8 @@ fn the_printed_defaults_are_the_published_site_with_its_limits() {
     assert_eq!(site_fields(&defaults), Ok(published::fields()));
     let lines = [
         "soil = 200  # 0 to 50000 µg/g; lead in soil",
-        "# dust = 150  # 0 to 50000 µg/g; lead in house dust, used if dust_mode = 0",
+        "# dust = 150  # 0 to 50000 µg/g; lead in house dust; needs dust_mode = 0",
+        "# passive_alternate = 20  # 0 to 100 %; passive share of what alternate gives; needs alternate over 0, absorbed_alternate over 0",
         "dust_mode = 1  # 0 to 1; 0 dust as given, 1 from soil and air",
         "saturation = 100  # 1 to 500 µg/day; half-saturation of the gut at 24 months",
     ];

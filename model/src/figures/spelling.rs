@@ -2,11 +2,13 @@
 
 use super::KEYS;
 
-/// The nearest key, where one is near: no more edits away than half the letters.
+/// The nearest of the keys that are no more edits away than half the letters, if there is one.
 pub fn nearest_key(word: &str) -> Option<&'static str> {
     let word = word.to_lowercase().replace(['-', ' '], "_");
-    let (edits, name) = KEYS.iter().map(|key| (edits(&word, key.name), key.name)).min()?;
-    (edits <= word.chars().count().max(name.len()) / 2).then_some(name)
+    let letters = |name: &str| word.chars().count().max(name.len());
+    let measured = KEYS.iter().map(|key| (edits(&word, key.name), key.name));
+    let (_, name) = measured.filter(|(edits, name)| *edits <= letters(name) / 2).min()?;
+    Some(name)
 }
 
 /// How many letters must be put in, left out or changed to make one word of another.

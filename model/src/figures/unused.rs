@@ -107,11 +107,22 @@ impl Need {
     /// The line that meets it.
     fn line(&self) -> String {
         let key = self.key();
-        match *self {
-            Mode(_, number) => format!("`{} = {number}` ({})", key.name, key.meaning),
+        match self {
+            Mode(..) => format!("`{}` ({})", self.short(), key.meaning),
             Over0(_) => format!("`{} = N` with N over 0 {} ({})", key.name, key.unit, key.meaning),
             DustShare => format!("`{} = N` with N under {WHOLE} % ({})", key.name, key.meaning),
             FlushedShare => format!("`{} = N` so that the two shares are under {WHOLE} %", key.name),
+        }
+    }
+
+    /// What is due, in a few words.
+    fn short(&self) -> String {
+        let name = self.key().name;
+        match self {
+            Mode(_, number) => format!("{name} = {number}"),
+            Over0(_) => format!("{name} over 0"),
+            DustShare => format!("{name} under {WHOLE}"),
+            FlushedShare => format!("shares under {WHOLE}"),
         }
     }
 
@@ -142,6 +153,11 @@ impl Key {
     /// Whether its figures, if not 0, change what the child takes up.
     pub fn counts(&self, fields: &Fields) -> bool {
         unmet(self, fields).is_empty()
+    }
+
+    /// What it needs to count, in a few words.
+    pub fn needs(&self, fields: &Fields) -> String {
+        unmet(self, fields).iter().map(Need::short).collect::<Vec<String>>().join(", ")
     }
 }
 

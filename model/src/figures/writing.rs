@@ -12,10 +12,12 @@ impl Key {
         shown.collect::<Vec<String>>().join(" ")
     }
 
-    /// Its line, with unit, limits and meaning as a remark.
+    /// Its line, with limits, unit and meaning as a remark, and what it still needs to count.
     fn line(&self, fields: &Fields) -> String {
         let limits = format!("{} to {}", self.shown(self.least()), self.with_unit(self.most()));
-        format!("{} = {}  # {limits}; {}\n", self.name, self.figures(fields), self.meaning)
+        let needs =
+            if self.counts(fields) { String::new() } else { format!("; needs {}", self.needs(fields)) };
+        format!("{} = {}  # {limits}; {}{needs}\n", self.name, self.figures(fields), self.meaning)
     }
 }
 
