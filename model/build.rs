@@ -1,10 +1,14 @@
-//! Points the linker at the engine's static library when the feature `engine` is on.
+//! Points the linker at the engine's static library when the feature `engine` is on, and says how to build it
+//! where it is missing.
 
 use std::env;
 use std::path::PathBuf;
 
 /// Where the engine's build leaves its static library, from this package's folder.
 const ENGINE_FOLDER: &str = "../target/staticlib";
+
+/// The library's file.
+const ENGINE_LIBRARY: &str = "libjurengate.a";
 
 /// Names another folder to take the library from.
 const FOLDER_VARIABLE: &str = "JURENGATE_LIB_DIR";
@@ -16,7 +20,13 @@ fn main() {
         return;
     }
     let folder = engine_folder();
-    println!("cargo:rerun-if-changed={}", folder.join("libjurengate.a").display());
+    let library = folder.join(ENGINE_LIBRARY);
+    println!("cargo:rerun-if-changed={}", library.display());
+    if !library.is_file() {
+        let how = format!("build it with `rt staticlib jurengate`, or name its folder in {FOLDER_VARIABLE}");
+        println!("cargo::error=the engine's library {} is missing: {how}", library.display());
+        return;
+    }
     println!("cargo:rustc-link-search=native={}", folder.display());
     println!("cargo:rustc-link-lib=static=jurengate");
 }

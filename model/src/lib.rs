@@ -12,6 +12,7 @@ pub mod big;
 pub mod block;
 pub mod book;
 pub mod cards;
+pub mod console;
 pub mod demand3;
 pub mod engine;
 pub mod fast;

@@ -1,5 +1,7 @@
 //! The refusal numbers of document 01, "Calls and refusal numbers".
 
+use std::fmt;
+
 /// Why a call was refused; the discriminant is the paper's number.
 #[derive(Clone, Copy, Debug, PartialEq, Eq)]
 pub enum Refusal {
@@ -36,6 +38,26 @@ impl Refusal {
     /// The paper's number.
     pub fn number(self) -> u32 {
         self as u32
+    }
+}
+
+impl fmt::Display for Refusal {
+    fn fmt(&self, f: &mut fmt::Formatter) -> fmt::Result {
+        let why = match self {
+            Refusal::Length => "its length is wrong",
+            Refusal::BloodList => "the list of blood figures is not 84 long",
+            Refusal::Check => "the check of a block is wrong: it was damaged or changed",
+            Refusal::Edition => "the edition of a block is not 1",
+            Refusal::Number => "a block is not the one due there",
+            Refusal::Reserved => "a reserved byte is not zero",
+            Refusal::SiteLimits => "a figure is outside its limits",
+            Refusal::BookLimits => "a row of the book is outside its limits",
+            Refusal::Intake => "an intake of air, water, soil or dust is over its limit",
+            Refusal::NoState => "what was handed in is no state",
+            Refusal::LastMonth => "the state's month is 84 already",
+            Refusal::Burden => "the lead in the body is over its limit",
+        };
+        write!(f, "refused with {}: {why}", self.number())
     }
 }
 

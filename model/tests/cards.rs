@@ -3,7 +3,7 @@
 use jurengate_model::book::{column, read_book};
 use jurengate_model::cards::{curves, published};
 use jurengate_model::engine::run;
-use jurengate_model::figures::{site_fields, text_of, KEYS};
+use jurengate_model::figures::{site_fields, text_of, Mistake, KEYS};
 use jurengate_model::random::{self, Generator};
 use jurengate_model::site::{place, read_site, Site, AGES};
 use jurengate_model::state::MONTHS;
@@ -130,8 +130,12 @@ fn an_empty_text_is_the_published_site() {
 
 #[test]
 fn the_keys_cover_the_94_fields_once() {
-    let text = text_of(&[0; 94]);
-    assert_eq!(text.lines().count(), KEYS.len());
+    let text = text_of(&published::fields());
+    for key in &KEYS {
+        let lines =
+            text.lines().filter(|line| line.trim_start_matches("# ").split(' ').next() == Some(key.name));
+        assert_eq!(lines.count(), 1, "{}", key.name);
+    }
     let mut generator = Generator::new(61);
     for _ in 0..200 {
         let range = random::range(&mut generator);
@@ -156,7 +160,8 @@ fn figures_are_read_exactly() {
 fn mistakes_are_told_with_their_line() {
     let cases = [
         ("soil 200", "line 1: `soil 200` is not `key = figures`"),
-        ("\nsol = 200", "line 2: `sol` is not a key"),
+        ("\nsol = 200", "line 2: `sol` is not a key; did you mean `soil`?"),
+        ("zzz = 200", "line 1: `zzz` is not a key; makecard --defaults prints them all"),
         ("soil = 1 2", "line 1: soil takes one figure, or seven for ages 0 to 6, not 2"),
         ("mother = 1 2", "line 1: mother takes one figure, not 2"),
         ("mother =", "line 1: mother takes one figure, not 0"),
@@ -170,10 +175,41 @@ fn mistakes_are_told_with_their_line() {
         ("saturation = 0.5", "line 1: saturation: 0.5 is below 1 µg/day"),
         ("soil = 99999999999999999999999", "line 1: soil: `99999999999999999999999` is too long"),
         ("soil = 9999999999", "line 1: soil: 9999999999 is over the limit of 50000 µg/g"),
-        ("soil = 1\nsoil = 2", "line 2: soil is given twice"),
-        ("first_draw_share = 90", "first_draw_share and fountain_share are 105 % together, over 100 %"),
+        ("dust_mode = 2", "line 1: dust_mode: 2 is over the limit of 1"),
+        ("soil = 1\nsoil = 2", "line 2: soil is given twice, first on line 1"),
+        (
+            "\nfirst_draw_share = 90",
+            "line 2: first_draw_share and fountain_share are 105 % together, over 100 %",
+        ),
     ];
     for (text, told) in cases {
-        assert_eq!(site_fields(text).unwrap_err().to_string(), told);
+        let mistakes: Vec<String> = site_fields(text).unwrap_err().iter().map(Mistake::to_string).collect();
+        assert_eq!(mistakes, [told]);
     }
+}
+
+#[test]
+fn every_mistake_is_told_in_the_order_of_the_lines() {
+    let text =
+        "first_draw_share = 90\nsol = 3\nsoil = 1 -2 x 4 5 6 7\nsoil = 99999\n\neaten = 1 2.5\nair 3\n";
+    let due = [
+        "line 1: first_draw_share and fountain_share are 105 % together, over 100 %",
+        "line 2: `sol` is not a key; did you mean `soil`?",
+        "line 3: soil: `-2` is not a figure such as 200 or 0.9",
+        "line 3: soil: `x` is not a figure such as 200 or 0.9",
+        "line 4: soil is given twice, first on line 3",
+        "line 4: soil: 99999 is over the limit of 50000 µg/g",
+        "line 6: eaten takes one figure, or seven for ages 0 to 6, not 2",
+        "line 6: eaten: `2.5` must be a whole number",
+        "line 7: `air 3` is not `key = figures`",
+    ];
+    let mistakes: Vec<String> = site_fields(text).unwrap_err().iter().map(Mistake::to_string).collect();
+    assert_eq!(mistakes, due);
+}
+
+/// A share that could not be read keeps its default, which must not be added up.
+#[test]
+fn shares_are_added_up_only_where_both_are_read() {
+    let mistakes = site_fields("first_draw_share = 90\nfountain_share = x\n").unwrap_err();
+    assert_eq!(mistakes.len(), 1, "{mistakes:?}");
 }

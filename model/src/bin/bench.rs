@@ -5,11 +5,21 @@
 //! called alone: it is what a month call takes beyond the reading, over the month's steps.
 
 use jurengate_model::cards::{curves, published};
+use jurengate_model::console::{asks_for_help, ended, misused, print, words};
 use jurengate_model::kinetics::{DAY_STEPS, MONTH_DAYS};
 use jurengate_model::state::{State, MONTHS};
 use jurengate_model::{fast, ffi};
 use std::hint::black_box;
+use std::io;
+use std::process::ExitCode;
 use std::time::{Duration, Instant};
+
+const PROGRAM: &str = "bench";
+
+const USAGE: &str = "\
+usage: bench          times the engine beside plain Rust and prints their ratios, a line every few seconds
+       bench --help   prints this
+";
 
 /// Lots per line.
 const LOTS: usize = 1_000;
@@ -47,23 +57,23 @@ fn fastest<const N: usize>(mut works: [&mut dyn FnMut(); N]) -> [f64; N] {
 }
 
 /// Times both sides and prints a line.
-fn compare(what: &str, engine: &mut dyn FnMut(), rust: &mut dyn FnMut()) {
+fn compare(what: &str, engine: &mut dyn FnMut(), rust: &mut dyn FnMut()) -> io::Result<()> {
     let [engine, rust] = fastest([engine, rust]).map(|seconds| 1e6 * seconds);
-    println!("{what}: engine {engine:.2} µs, Rust {rust:.2} µs, ratio {:.2}", engine / rust);
+    print(format!("{what}: engine {engine:.2} µs, Rust {rust:.2} µs, ratio {:.2}\n", engine / rust))
 }
 
 /// A month call from a state.
 type MonthCall<'a> = dyn Fn(&State) + 'a;
 
 /// Times a step of both sides: month calls that step less month calls that only read.
-fn compare_steps(engine: &MonthCall, rust: &MonthCall, stepping: &State, reading: &State) {
+fn compare_steps(engine: &MonthCall, rust: &MonthCall, stepping: &State, reading: &State) -> io::Result<()> {
     let mut works = [(engine, stepping), (engine, reading), (rust, stepping), (rust, reading)]
         .map(|(call, state)| move || call(state));
     let [engine, engine_reads, rust, rust_reads] =
         fastest(works.each_mut().map(|work| work as &mut dyn FnMut()));
     let steps = (MONTH_DAYS * DAY_STEPS) as f64;
     let [engine, rust] = [engine - engine_reads, rust - rust_reads].map(|seconds| 1e9 * seconds / steps);
-    println!("one step: engine {engine:.1} ns, Rust {rust:.1} ns, ratio {:.2}", engine / rust);
+    print(format!("one step: engine {engine:.1} ns, Rust {rust:.1} ns, ratio {:.2}\n", engine / rust))
 }
 
 /// Birth, then months up to 24: a state in the middle of a run.
@@ -72,7 +82,8 @@ fn middle_state(site: &[u8], book: &[u8]) -> State {
     (0..24).fold(newborn, |state, _| fast::month(site, book, &state).state)
 }
 
-fn main() {
+/// Times everything, up to a reader's end.
+fn bench() -> io::Result<()> {
     let (site, book) = (published::site(), curves::book());
     let middle = middle_state(&site, &book);
     // At month 84 a month call reads both files and then answers 21 at once.
@@ -88,14 +99,23 @@ fn main() {
         &mut || {
             black_box(fast::run(black_box(&site), black_box(&book), &mut rust_list));
         },
-    );
+    )?;
     let engine_month = |state: &State| {
         black_box(ffi::month(black_box(&site), black_box(&book), state));
     };
     let rust_month = |state: &State| {
         black_box(fast::month(black_box(&site), black_box(&book), state));
     };
-    compare("one month call", &mut || engine_month(&middle), &mut || rust_month(&middle));
-    compare("reading both files", &mut || engine_month(&last), &mut || rust_month(&last));
-    compare_steps(&engine_month, &rust_month, &middle, &last);
+    compare("one month call", &mut || engine_month(&middle), &mut || rust_month(&middle))?;
+    compare("reading both files", &mut || engine_month(&last), &mut || rust_month(&last))?;
+    compare_steps(&engine_month, &rust_month, &middle, &last)
+}
+
+fn main() -> ExitCode {
+    let words = words();
+    match words.first() {
+        None => ended(PROGRAM, bench()),
+        Some(_) if asks_for_help(&words) => ended(PROGRAM, print(USAGE)),
+        Some(word) => misused(PROGRAM, &format!("`{word}` is no option"), USAGE),
+    }
 }

@@ -1,22 +1,40 @@
-//! Random cards, whole and damaged, run by the engine and by the model: `soak [RUNS] [SEED]`.
+//! Random cards, whole and damaged, run by the engine and by the model.
 //!
 //! Each card's book is read; then the card is run in one call and lived again month by month. The engine
 //! must give the model's answers, and the same figures and last state both ways.
-//! Every run has a seed of its own, the next run the next one, so that one can be repeated alone.
+//! Seed and number of a card make it, so that other seeds are other cards and one can be repeated alone.
 
 use jurengate_model::book::{self, BOOK_ROWS, ROW_FIELDS};
+use jurengate_model::console::{asks_for_help, ended, misused, print, words};
 use jurengate_model::engine::{self, RunAnswer};
 use jurengate_model::ffi;
 use jurengate_model::random::{self, Generator};
 use jurengate_model::refusal::number_of;
 use jurengate_model::state::MONTHS;
-use std::env;
 use std::fmt::Debug;
 use std::process::ExitCode;
 use std::time::Instant;
 
-const RUNS: u64 = 10_000;
-const SEED: u64 = 1;
+const PROGRAM: &str = "soak";
+
+/// What the command line asks for.
+#[derive(Clone, Copy)]
+struct Task {
+    cards: u32,
+    seed: u32,
+    first: u32,
+}
+
+/// What no word on the command line changes.
+const TASK: Task = Task { cards: 10_000, seed: 0, first: 1 };
+
+const USAGE: &str = "\
+usage: soak [CARDS [SEED [FIRST]]]   runs CARDS random cards (default 10000) of SEED (default 0), from card FIRST (default 1)
+       soak --help                   prints this
+
+The engine and the model run each card; the first mismatch ends it, with the words that repeat that card alone.
+Other seeds are other cards.
+";
 
 /// Lent lists are filled with this beforehand.
 const BEFORE: u32 = 0x5EED_5EED;
@@ -37,15 +55,16 @@ struct Tally {
 }
 
 impl Tally {
-    fn print(&self, started: Instant) {
-        println!("{} runs: {} accepted", self.runs, self.by_number[0]);
+    fn report(&self, started: Instant) -> String {
+        let mut lines = vec![format!("{} runs: {} accepted", self.runs, self.by_number[0])];
         for (number, runs) in self.by_number.iter().enumerate().skip(1).filter(|(_, runs)| **runs > 0) {
-            println!("  {runs} refused with {number}");
+            lines.push(format!("  {runs} refused with {number}"));
         }
-        println!("{} months compared in runs", self.run_months);
-        println!("{} books compared, {} of them accepted", self.books, self.accepted_books);
-        println!("{} births and {} month calls compared", self.births, self.month_calls);
-        println!("no mismatch, {:.0} s", started.elapsed().as_secs_f64());
+        lines.push(format!("{} months compared in runs", self.run_months));
+        lines.push(format!("{} books compared, {} of them accepted", self.books, self.accepted_books));
+        lines.push(format!("{} births and {} month calls compared", self.births, self.month_calls));
+        lines.push(format!("no mismatch, {:.0} s\n", started.elapsed().as_secs_f64()));
+        lines.join("\n")
     }
 }
 
@@ -120,8 +139,8 @@ fn month_by_month(
 }
 
 /// One card both ways.
-fn soak(seed: u64, tally: &mut Tally) -> Result<(), String> {
-    let mut generator = Generator::new(seed);
+fn soak(seed: u32, number: u32, tally: &mut Tally) -> Result<(), String> {
+    let mut generator = Generator::of_card(seed, number);
     let (site, book) = card(&mut generator);
     read_book(&book, tally)?;
     let mut list = vec![BEFORE; list_length(&mut generator)];
@@ -138,26 +157,54 @@ fn soak(seed: u64, tally: &mut Tally) -> Result<(), String> {
     Ok(())
 }
 
-/// Runs and seed from the command line.
-fn arguments() -> Option<(u64, u64)> {
-    let mut words = env::args().skip(1);
-    let mut next = |default| words.next().map_or(Some(default), |word| word.parse().ok());
-    let asked = (next(RUNS)?, next(SEED)?);
-    words.next().is_none().then_some(asked)
+/// A word of the command line as a number from `least` up.
+fn number(word: &str, least: u32) -> Result<u32, String> {
+    let number = word.parse().ok().filter(|&number| number >= least);
+    number.ok_or_else(|| format!("`{word}` is no number from {least} to {}", u32::MAX))
+}
+
+/// The task that the words of the command line name.
+fn task(words: &[String]) -> Result<Task, String> {
+    let word = |place: usize, default: u32, least: u32| {
+        words.get(place).map_or(Ok(default), |word| number(word, least))
+    };
+    let task =
+        Task { cards: word(0, TASK.cards, 1)?, seed: word(1, TASK.seed, 0)?, first: word(2, TASK.first, 1)? };
+    if let Some(word) = words.get(3) {
+        return Err(format!("`{word}` is a word too many"));
+    }
+    if task.first.checked_add(task.cards - 1).is_none() {
+        return Err(format!("a seed has {} cards", u32::MAX));
+    }
+    Ok(task)
+}
+
+/// Runs the cards; answers what was compared, or the mismatch.
+fn soak_all(task: Task) -> Result<Tally, String> {
+    let (seed, mut tally) = (task.seed, Tally::default());
+    for number in (0..task.cards).map(|card| task.first + card) {
+        soak(seed, number, &mut tally).map_err(|mismatch| {
+            format!("mismatch at card {number} of seed {seed} (repeat it with: soak 1 {seed} {number}): {mismatch}")
+        })?;
+    }
+    Ok(tally)
 }
 
 fn main() -> ExitCode {
-    let Some((runs, first)) = arguments() else {
-        eprintln!("usage: soak [RUNS] [SEED]");
-        return ExitCode::from(2);
+    let words = words();
+    if asks_for_help(&words) {
+        return ended(PROGRAM, print(USAGE));
+    }
+    let task = match task(&words) {
+        Ok(task) => task,
+        Err(what) => return misused(PROGRAM, &what, USAGE),
     };
-    let (started, mut tally) = (Instant::now(), Tally::default());
-    for seed in (0..runs).map(|run| first.wrapping_add(run)) {
-        if let Err(mismatch) = soak(seed, &mut tally) {
-            eprintln!("mismatch at seed {seed} (repeat it with: soak 1 {seed}): {mismatch}");
-            return ExitCode::FAILURE;
+    let started = Instant::now();
+    match soak_all(task) {
+        Ok(tally) => ended(PROGRAM, print(tally.report(started))),
+        Err(mismatch) => {
+            eprintln!("{PROGRAM}: {mismatch}");
+            ExitCode::FAILURE
         }
     }
-    tally.print(started);
-    ExitCode::SUCCESS
 }

@@ -12,6 +12,11 @@ impl Generator {
         Generator { state: seed }
     }
 
+    /// A generator for each card of each seed; no two begin with the same number.
+    pub fn of_card(seed: u32, number: u32) -> Generator {
+        Generator::new(u64::from(seed) << u32::BITS | u64::from(number))
+    }
+
     /// Any 64-bit number.
     pub fn any(&mut self) -> u64 {
         self.state = self.state.wrapping_add(0x9E37_79B9_7F4A_7C15);
