@@ -17,7 +17,17 @@ OPEN_CALLS = [
 ]
 
 # Files of crates/NAME/specs whose every definition is a promise, or a word that one is said in.
-LAW_FILES = ["Bench.antt", "Conservation.antt", "Delivery.antt", "Laws.antt", "Limits.antt", "Margin.antt", "Witness.antt"]
+LAW_FILES = [
+    "Bench.antt",
+    "Conservation.antt",
+    "Delivery.antt",
+    "Laws.antt",
+    "Limits.antt",
+    "Lists.antt",
+    "Margin.antt",
+    "Solution.antt",
+    "Witness.antt",
+]
 
 # Definitions of other files that laws take for granted: file -> names.
 LAWS_ELSEWHERE = {"crates/block/specs/Writer.antt": ["BodyPasses"]}
