@@ -95,7 +95,7 @@ module _ (book : List ℕ) (n : ℕ) (table : List ℕ) (long : length table ≡
   refused-by-header r e h =
       let header : r ≡ blockRefusal (blockAt book n) (bookForm n) = e ∙ ap (λ (b : List ℕ). blockRefusal b (bookForm n)) (lent-block book n) in
       record {
-        refusal = sym (rw (← header) (orElse-first r (orElse (unless (rowsFit (blockNumbers (blockAt book n)) 0) 8) 0) h));
+        refusal = sym (rw (← header) (orElse-first r _ h));
         long = long;
         table = λ z. absurd (h z);
       }
