@@ -1,5 +1,10 @@
 /* How a firmware uses Jurengate: a card's two files are read into fixed buffers, the child is born, and each month is made by its
- * own call; then the same by the run in one go. Prints a line per month, and fails where the two differ. */
+ * own call; then the same by the run in one go. Prints a line per month and a last one with the refusal (0 if none) and the months
+ * done; fails if the two differ. In the repository's root:
+ *
+ *   rt staticlib jurengate
+ *   cc -I include examples/firmware.c target/staticlib/libjurengate.a -o target/firmware
+ *   target/firmware samples/default/site.lkb samples/default/book.lkb */
 #include <stdint.h>
 #include <stdio.h>
 #include <string.h>

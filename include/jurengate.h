@@ -14,9 +14,10 @@
  *   run           1 of either file, 2, the site file's 3 to 7, the book's 3 to 6 and 8, birth's 22, then 9 and 22 month by month
  *
  * MONTH BY MONTH. Nothing is kept between calls: the state is all that goes from one month to the next. Each month call may have
- * another site file and another book (a yard cleaned, a family moved); the run has the same two for all its months. Birth and 84
- * month calls with the same files answer what the run answers. A state may be stored and handed in again; a changed one is
- * refused with 20 only where it is no state at all. The all-zero state that a refused birth leaves is one: month 0, no lead.
+ * another site file and another book (a yard cleaned, a family moved); the run has the same two for all its months. After an
+ * accepted birth, month calls with the same files, up to the first that is refused, answer what the run answers. A state may be
+ * stored and handed in again; a changed one is refused with 20 only if it is no state at all. The all-zero state that a refused
+ * birth leaves is one: month 0, no lead. So look at birth's answer before the first month.
  *
  * MEMORY. No pointer may be null, not even that of an empty file or list: with length 0 it may be any other address that its type
  * allows, and nothing is read or written there. Bytes may lie anywhere; the uint32_t and uint64_t memory must be aligned as its
@@ -24,8 +25,8 @@
  * outside the lent memory is written. The calls use no heap and have no static data, so that calls with memory of their own may
  * run at the same time, in threads or interrupts; they may share their files.
  *
- * STACK. Each call stays within its JURENGATE_STACK_ bytes: that is tested, not proved. What was measured is in docs/MEASURED.md and
- * about a tenth less. Every call returns, and none calls back.
+ * STACK. Each call stays within its JURENGATE_STACK_ bytes: that is tested, not proved. They are what was measured
+ * (docs/MEASURED.md) and a tenth of it, 256 bytes at least. Every call returns, and none calls back.
  *
  * LINKING. The library needs memcpy and memset from the C library, and nothing else. It is x86-64 Linux object code today; the
  * stack figures are of it.
@@ -36,8 +37,8 @@
 #include <stddef.h>
 #include <stdint.h>
 
-/* The version of this interface. MAJOR rises where a firmware has to change: a declaration, the meaning of a name, or an answer of
- * a call; while it is 0, MINOR does. MINOR rises where something is added, PATCH where neither is so. Files have an edition. */
+/* The version of this interface. MAJOR rises if a firmware has to change: a declaration, the meaning of a name, or an answer of
+ * a call; while it is 0, MINOR does. MINOR rises if something is added, PATCH if neither is so. Files have an edition. */
 #define JURENGATE_VERSION_MAJOR 0
 #define JURENGATE_VERSION_MINOR 1
 #define JURENGATE_VERSION_PATCH 0
@@ -178,28 +179,28 @@ enum jurengate_state_place {
 extern "C" {
 #endif
 
-/* Reads a site file into its fields; zeros where it is refused (1, 3 to 7). */
+/* Reads a site file into its fields; zeros if it is refused (1, 3 to 7). */
 uint32_t jurengate_read_site(const uint8_t *site, size_t site_len, uint32_t fields[JURENGATE_SITE_FIELDS]);
 
-/* Reads a rate book into its 85 rows of 23 numbers; zeros where it is refused (1, 3 to 6, 8). */
+/* Reads a rate book into its 85 rows of 23 numbers; zeros if it is refused (1, 3 to 6, 8). */
 uint32_t jurengate_read_book(const uint8_t *book, size_t book_len, uint32_t table[JURENGATE_TABLE_NUMBERS]);
 
 /* Writes a body of JURENGATE_BODY_BYTES and its check into a target of JURENGATE_BLOCK_BYTES. It looks at the two lengths alone:
- * where one is wrong (1) the target keeps its content. */
+ * if one is wrong (1) the target keeps its content. */
 uint32_t jurengate_write_block(const uint8_t *body, size_t body_len, uint8_t *target, size_t target_len);
 
-/* The child at birth, month 0; all zeros where it is refused (1, 3 to 8, 22). */
+/* The child at birth, month 0; all zeros if it is refused (1, 3 to 8, 22). */
 uint32_t jurengate_birth(const uint8_t *site, size_t site_len, const uint8_t *book, size_t book_len,
                          uint64_t state[JURENGATE_STATE_WORDS]);
 
-/* The month after state's: the state at its end, and its blood figure. Where it is refused (1, 3 to 9, 20 to 22) the state keeps
+/* The month after state's: the state at its end, and its blood figure. If it is refused (1, 3 to 9, 20 to 22) the state keeps
  * its content and the blood figure is 0. */
 uint32_t jurengate_month(const uint8_t *site, size_t site_len, const uint8_t *book, size_t book_len,
                          uint64_t state[JURENGATE_STATE_WORDS], uint32_t *blood);
 
 /* Birth and 84 months; blood_len counts figures. As many blood figures are written as months were done; the rest of the list keeps
- * its content. The state is the last month end: month 0 after birth, all zeros without one. Where it is refused (1 to 9, 22) months
- * says how many were done before; it is 84 where it is accepted. What state and months held before does not matter. */
+ * its content. The state is the last month end: month 0 after birth, all zeros without one. If it is refused (1 to 9, 22) months
+ * says how many were done before; it is 84 if it is accepted. What state and months held before does not matter. */
 uint32_t jurengate_run(const uint8_t *site, size_t site_len, const uint8_t *book, size_t book_len,
                        uint32_t *blood, size_t blood_len, uint64_t state[JURENGATE_STATE_WORDS], uint32_t *months);
 

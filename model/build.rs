@@ -1,5 +1,5 @@
 //! Points the linker at the engine's static library when the feature `engine` is on, and says how to build it
-//! where it is missing.
+//! if it is missing.
 
 use std::env;
 use std::path::PathBuf;

@@ -132,7 +132,7 @@ fn state(tape: &mut Tape) -> State {
     }
 }
 
-/// What is left of the input, cut in two; the blocks are sealed where it says so.
+/// What is left of the input, cut in two; the blocks are sealed if it says so.
 fn raw(tape: &mut Tape) -> Case {
     let seals = tape.byte();
     let list_off = tape.byte() as i8;

@@ -85,7 +85,7 @@ fn put_row_number(tape: &mut Tape, block: &mut [u8]) {
     }
 }
 
-/// One limit of a good row passed, or just met where one is taken off the number again.
+/// One limit of a good row passed, or just met if one is taken off the number again.
 fn break_row(tape: &mut Tape, block: &mut [u8]) {
     let faults = random::row_faults();
     let (row, fault) = (tape.index(BLOCK_ROWS), faults[tape.index(faults.len())]);

@@ -65,7 +65,7 @@ impl<'a> Tape<'a> {
         usize::from(self.byte()) % length
     }
 
-    /// A number near one where the rules turn, or any 64 bits.
+    /// A number near one at which a rule changes, or any 64 bits.
     pub fn number(&mut self) -> u64 {
         match self.index(TURNS.len() + 4) {
             turn if turn < TURNS.len() => TURNS[turn].wrapping_add_signed(i64::from(self.byte() as i8)),

@@ -34,7 +34,7 @@ impl Big {
         Big { limbs }
     }
 
-    /// Difference, where `other` is not the greater.
+    /// Difference, if `other` is not the greater.
     pub fn minus(self, other: Big) -> Big {
         let mut borrow = false;
         let limbs = std::array::from_fn(|i| {

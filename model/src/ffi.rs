@@ -44,7 +44,7 @@ extern "C" {
     ) -> u32;
 }
 
-/// The engine's site reader: its number and the fields, zeros where refused.
+/// The engine's site reader: its number and the fields, zeros if refused.
 pub fn read_site(site: &[u8]) -> (u32, [u32; SITE_FIELDS]) {
     let mut fields = [FILLER; SITE_FIELDS];
     // SAFETY: the pointers span `site` and 94 writable fields.
@@ -52,7 +52,7 @@ pub fn read_site(site: &[u8]) -> (u32, [u32; SITE_FIELDS]) {
     (number, fields)
 }
 
-/// The engine's book reader: its number and the rows, zeros where refused.
+/// The engine's book reader: its number and the rows, zeros if refused.
 pub fn read_book(book: &[u8]) -> (u32, Table) {
     let mut table = [[FILLER; ROW_FIELDS]; BOOK_ROWS];
     // SAFETY: the pointers span `book` and 85 rows of 23 writable numbers.

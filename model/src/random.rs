@@ -76,7 +76,7 @@ fn near_site(generator: &mut Generator) -> [u32; SITE_FIELDS] {
     fields
 }
 
-/// Figures of any size, scaled down where an intake would pass 10^9.
+/// Figures of any size, scaled down if an intake would pass 10^9.
 fn wide_site(generator: &mut Generator) -> [u32; SITE_FIELDS] {
     let mut fields: [u32; SITE_FIELDS] = std::array::from_fn(|index| {
         let least = u64::from(site::least(index));

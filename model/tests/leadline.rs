@@ -84,7 +84,7 @@ fn files_that_cannot_be_read_count_as_empty() {
     assert_eq!(printed(folder.path()), b"refused 1 after 0\n");
 }
 
-/// Where standard output takes nothing, the program says so once and ends by itself.
+/// If standard output takes nothing, the program says so once and ends by itself.
 #[test]
 fn a_full_device_is_told_on_standard_error() {
     let (site, book) = (published::site(), curves::book());
@@ -117,7 +117,7 @@ fn a_closed_standard_output_is_told_on_standard_error() {
     }
 }
 
-/// Where standard input is closed, a file is opened as descriptor 0, and read as any other.
+/// If standard input is closed, a file is opened as descriptor 0, and read as any other.
 #[test]
 fn a_closed_standard_input_changes_nothing() {
     let (site, book) = (published::site(), curves::book());

@@ -30,7 +30,7 @@ fn makecard(arguments: &[&str], folder: &Folder) -> Told {
     Told { status: output.status.code(), output: text(output.stdout), errors: text(output.stderr) }
 }
 
-/// What was printed where nothing else is to be said.
+/// What was printed if nothing else is to be said.
 fn printed(told: Told) -> String {
     assert_eq!((told.status, told.errors.as_str()), (Some(0), ""));
     told.output

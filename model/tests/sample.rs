@@ -15,7 +15,7 @@ use std::fs;
 use std::os::unix::fs::symlink;
 use std::process::Command;
 
-/// What `rt check leadline` prints where nothing is to prove.
+/// What `rt check leadline` prints if nothing is to prove.
 const PROVED: &str = "rt: numbers proved (unchanged since it was last proved)\nrt: ok, 1 crates proved\n";
 
 /// A copy of the script with what it needs.

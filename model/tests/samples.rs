@@ -31,7 +31,7 @@ fn each_printout_is_the_model_s() {
     }
 }
 
-/// The card that the program's own check runs on, where it has one, is the default sample.
+/// The card that the program's own check runs on, if it has one, is the default sample.
 #[test]
 fn the_program_s_card_is_the_default_sample() {
     let (program, default) = (repository::at("crates/leadline"), repository::at("samples/default"));

@@ -47,7 +47,7 @@ fn figures_in(path: &Path) -> Result<Figures, Messages> {
     })
 }
 
-/// Writes both files into the folder, made where it is missing; answers what was written.
+/// Writes both files into the folder, made if it is missing; answers what was written.
 fn make(figures_path: &Path, folder: &Path) -> Result<String, Messages> {
     let figures = figures_in(figures_path)?;
     for each in figures::unused(&figures) {
@@ -96,7 +96,7 @@ fn reasons(refusal: Refusal, site: &[u8]) -> Messages {
     told
 }
 
-/// What the command line asks for: a text to print, or messages; none where it asks for nothing known.
+/// What the command line asks for: a text to print, or messages; none if it asks for nothing known.
 fn answer(arguments: &[OsString]) -> Option<Result<String, Messages>> {
     let is_option = |word: &OsString| word.to_string_lossy().starts_with('-');
     match arguments {

@@ -68,7 +68,7 @@ impl Tally {
     }
 }
 
-/// The answer where it is the one due, else both.
+/// The answer if it is the one due, else both.
 fn held<T: PartialEq + Debug>(what: &str, answer: T, due: T) -> Result<T, String> {
     if answer == due {
         Ok(answer)

@@ -5,7 +5,7 @@
 //! (document 000, parameter NS) and T the transfer time in days. Rounding is to
 //! the nearest whole number.
 //!
-//! How the scans were read where they are unclear or quarrel:
+//! How the scans were read where they are unclear or disagree:
 //! - B-5a, B-5c, B-5f: both terms and the plus between them as printed in 000
 //!   (002 lost the plus); the same numbers stand in the change requests, item 14.
 //! - B-5g: 002's form, as document 01 takes its labels from 002 and 000's own

@@ -26,7 +26,7 @@ impl fmt::Display for Mistake {
 pub struct Figures {
     /// The site fields; what the text leaves out has its published default.
     pub fields: Fields,
-    /// The line that gives each key, in the order of `KEYS`, where one does.
+    /// The line that gives each key, in the order of `KEYS`, if one does.
     pub lines: [Option<usize>; KEYS.len()],
 }
 
@@ -56,7 +56,7 @@ fn scaled(text: &str, decimals: usize) -> Result<u64, String> {
 }
 
 impl Key {
-    /// What is wrong with a value that people write as `text`, where it is outside the limits.
+    /// What is wrong with a value that people write as `text`, if it is outside the limits.
     fn limit_mistake(&self, value: u64, text: &str) -> Option<String> {
         if value < self.least().into() {
             return Some(format!("{}: {text} is below {}", self.name, self.with_unit(self.least())));
@@ -168,14 +168,14 @@ impl Reader {
         mistakes
     }
 
-    /// The sum of the two water shares, where both were read well.
+    /// The sum of the two water shares, if both were read well.
     fn hold_shares(&mut self) {
         let lines =
             [place::FIRST_DRAW_SHARE, place::FOUNTAIN_SHARE].map(|at| self.figures.lines[index_of(at)]);
         if self.mistakes.iter().any(|mistake| lines.contains(&Some(mistake.line))) {
             return;
         }
-        // Over the limit only where one of them is written, as the published shares fit.
+        // Over the limit only if one of them is written, as the published shares fit.
         if let (Some(what), Some(line)) =
             (shares_mistake(&self.figures.fields), lines.into_iter().flatten().max())
         {

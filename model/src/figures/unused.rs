@@ -126,7 +126,7 @@ impl Need {
         }
     }
 
-    /// What to do to a text where the key stands on this line, or on none.
+    /// What to do to a text if the key stands on this line, or on none.
     fn advice(&self, line: Option<usize>) -> String {
         match line {
             Some(line) => format!("change line {line} to {}", self.line()),

@@ -4,7 +4,7 @@ use super::{Fields, Key, KEYS};
 use crate::cards::published;
 
 impl Key {
-    /// Its figures: one where all ages have the same.
+    /// Its figures: one if all ages have the same.
     fn figures(&self, fields: &Fields) -> String {
         let values = self.of(fields);
         let same = values.iter().all(|value| *value == values[0]);

@@ -105,7 +105,7 @@ pub const INTAKES: [Intake; 6] = [
     Intake::MixedDust,
 ];
 
-/// Raises one intake of an age to 10^9 + 1 where the fields allow it, and nothing else over.
+/// Raises one intake of an age to 10^9 + 1 if the fields allow it, and nothing else over.
 pub fn break_intake(fields: &mut [u32; SITE_FIELDS], intake: Intake, age: usize) {
     let [few, many] = PAST_INTAKE;
     match intake {

@@ -18,7 +18,7 @@ fn are_ends(least: u32, most: u32, fits: impl Fn(u32) -> bool) -> bool {
     fits(least) && fits(most) && !below && !above
 }
 
-/// Whether a site field has these ends where every other field leaves it free.
+/// Whether a site field has these ends if every other field leaves it free.
 pub fn are_site_ends(place: usize, least: u32, most: u32) -> bool {
     are_ends(least, most, |value| {
         let mut fields = [0; SITE_FIELDS];
@@ -28,7 +28,7 @@ pub fn are_site_ends(place: usize, least: u32, most: u32) -> bool {
     })
 }
 
-/// Whether a row's number has these ends where every other number leaves it free.
+/// Whether a row's number has these ends if every other number leaves it free.
 pub fn are_row_ends(place: usize, least: u32, most: u32) -> bool {
     are_ends(least, most, |value| {
         let mut row: RowFields = [0; ROW_FIELDS];

@@ -1,11 +1,12 @@
 -- `leadline::print_lines` is safe and ends: the lent bytes begin with the line, so it ends within them. The measure is the number of lines left.
 -- Assumes nothing.
-use Prim.Native.Nat.{_-_}
+use Prim.Native.Nat.{suc, _-_}
 use mathlib.Core.Path.{sym}
 use native.Mathlib.Omega.{arith}
 use borrow.Author.Needs.{needs}
 use lib.ListN.{length-append}
 use lib.Seq.{length-take-le}
+use Rattle.row.specs.Row.{lastMonth}
 use Rattle.leadline.proofs.print_lines.Statement.{statement}
 use Rattle.leadline.proofs.print_lines.Tie as tie
 
@@ -13,7 +14,7 @@ abbrev Inv-loop : tie.InvT-loop
 Inv-loop run k₀ t5 k = Unit {0}
 
 abbrev μ-loop : tie.MeasureT-loop
-μ-loop run k₀ t5 k = 85 - k
+μ-loop run k₀ t5 k = suc lastMonth - k
 
 loop-holds : tie.Need-loop-holds Inv-loop μ-loop
 loop-holds c = tt
