@@ -10,7 +10,7 @@ use lib.ListN.{getD}
 use lib.Dec.{leb, eqb}
 use Rattle.numbers.specs.Choice.{unless, firstOf}
 use Rattle.numbers.proofs.Every.{and-true, and-left, and-right}
-use Rattle.numbers.proofs.Refusals.{firstOf-none, unless-none}
+use Rattle.numbers.proofs.Refusals.{firstOf-none, firstOf-not, unless-none, unless-not}
 use Rattle.row.specs.Row.{lastMonth}
 use Rattle.kinetics.specs.declared.State.{State}
 use Rattle.kinetics.specs.Step.{burden, burdenLimit}
@@ -55,11 +55,9 @@ module _ (a : State) (passed : stateRefusal a ≡ 0) where
 module _ {a : State} (sound : Sound a) where
   pub state-not-20 : stateRefusal a ≡ 20 → ⊥
   unfolding stateRefusal unless
-  state-not-20 = rw (sound-is-state sound) (by (not (eqb (a .month) lastMonth)))
-    where
-      by : (t : Bool) → firstOf (0 ∷ unless t 21 ∷ []) ≡ 20 → ⊥
-      by true e = omega arith
-      by false e = omega arith
+  state-not-20 =
+      firstOf-not 20 (omega arith) (stateRefusals a)
+      (rw (sound-is-state sound) (λ e. omega arith), (unless-not (not (eqb (a .month) lastMonth)) 21 20 (omega arith) (λ e. omega arith), tt))
 
   pub state-passes : a .month < lastMonth → stateRefusal a ≡ 0
   unfolding stateRefusal unless
