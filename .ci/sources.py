@@ -4,18 +4,6 @@ from pathlib import Path
 
 ROOT = Path(__file__).resolve().parent.parent
 
-# The open calls of docs/SPEC.md; the exported C calls are found by themselves.
-OPEN_CALLS = [
-    "block::write::write_block",
-    "book::read_book",
-    "engine::birth",
-    "engine::month",
-    "engine::run",
-    "printout::line",
-    "printout::prepare",
-    "site::read_site",
-]
-
 # Files of crates/NAME/specs whose every definition is a promise, or a word that one is said in.
 LAW_FILES = [
     "Bench.antt",
@@ -29,8 +17,17 @@ LAW_FILES = [
     "Witness.antt",
 ]
 
+# Those of them that have words alone.
+WORD_FILES = ["Lists.antt", "Solution.antt"]
+
 # Definitions of other files that laws take for granted: file -> names.
-LAWS_ELSEWHERE = {"crates/block/specs/Writer.antt": ["BodyPasses"]}
+LAWS_ELSEWHERE = {"crates/block/specs/Block.antt": ["Bytes"], "crates/block/specs/Writer.antt": ["BodyPasses"]}
+
+# Files of contracts between functions, which promise nothing to a caller of the engine.
+INTERNAL_FILES = ["Bounds.antt", "Internal.antt"]
+
+# The head of a definition in a specs file.
+HEAD = r" *(?:(?:abbrev|unfoldable) pub|pub record)"
 
 
 def name_of(path):
@@ -39,6 +36,12 @@ def name_of(path):
 
 def files(pattern):
     return sorted(ROOT.glob(pattern))
+
+
+def crates():
+    """The crates of crates.txt, in its order."""
+    lines = (ROOT / "crates.txt").read_text(encoding="utf-8").splitlines()
+    return [line.split(":")[0] for line in lines if re.match(r"\w+:", line)]
 
 
 def code(path):
@@ -63,6 +66,21 @@ def definitions(lines):
     return [part.strip("\n") for part in re.split(r"\n\n+", "\n".join(body)) if part.strip()]
 
 
+def propositions(path):
+    """The types that a file defines, laws and what they are made of: name -> definition."""
+    parts = [re.sub(r"^module .* where\n", "", part) for part in definitions(code(path))]
+    found = [(re.match(HEAD + r" (\S+) [^=]*?\bType 0(?: where)?$", part, re.M), part) for part in parts]
+    return {head[1]: part for head, part in found if head}
+
+
+def defines(name, part):
+    return re.search(r"^%s %s( |$)" % (HEAD, re.escape(name)), part, re.M) is not None
+
+
+def mentions(word, text):
+    return re.search(r"(?<![^\s(){}])%s(?![^\s(){}])" % re.escape(word), text) is not None
+
+
 def contract(lines, function):
     """A public function's signature with its contract, or None: the lines up to the brace that opens its body."""
     head = []
@@ -76,17 +94,22 @@ def contract(lines, function):
 
 
 def calls():
-    """Every open and every exported call: (its name, its file, its signature and contract or None)."""
+    """The open calls, which are those that a program or the C interface makes, and the exported ones: (name, file, signature and
+    contract or None)."""
+    opened, exported = set(), []
+    for path in files("crates/*/src/**/*.rt"):
+        lines = code(path)
+        text = "\n".join(lines)
+        exports = re.findall(r'^pub extern "C" fn (\w+)', text, re.M)
+        exported += [(function, path, contract(lines, function)) for function in exports]
+        if exports or path.name == "main.rt":
+            opened |= {call for call in re.findall(r"(\w+(?:::\w+)+)\(", text) if call.split("::")[0] in crates()}
     found = []
-    for call in OPEN_CALLS:
+    for call in sorted(opened):
         crate, *modules, function = call.split("::")
         path = ROOT / "crates" / crate / "src" / ("/".join(modules or ["lib"]) + ".rt")
         found.append((call, path, contract(code(path), function) if path.exists() else None))
-    for path in files("crates/*/src/**/*.rt"):
-        lines = code(path)
-        for function in re.findall(r'^pub extern "C" fn (\w+)', "\n".join(lines), re.M):
-            found.append((function, path, contract(lines, function)))
-    return found
+    return found + exported
 
 
 def law_files():
@@ -95,3 +118,16 @@ def law_files():
 
 def edits():
     return files("crates/*/must-fail/*.edit")
+
+
+def pairs(edit):
+    """The pairs of an edit: (file, old text, new text). As in rt, a `file:` line holds for the pairs below it."""
+    name = old = ""
+    for line in edit.read_text(encoding="utf-8").splitlines():
+        if line.startswith("file: "):
+            name = line[len("file: ") :]
+        elif line.startswith("old: "):
+            old = line[len("old: ") :]
+        elif line.startswith("new:"):
+            yield name, old, line[len("new:") :].removeprefix(" ")
+            old = ""
