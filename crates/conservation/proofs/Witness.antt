@@ -1,14 +1,14 @@
 -- The witness is accepted: its site file and its book by the laws of read-back, its birth and month by computing, its steps by their balance.
 -- Assumes nothing.
-use Prim.Native.Nat.{ℕ, _+_, _-_, _*_, _/_, _%_, _≤_, _<_}
+use Prim.Native.Nat.{ℕ, zero, suc, _+_, _-_, _*_, _/_, _%_, _≤_, _<_}
 use mathlib.Core.Path.{_≡_, refl, sym, ap, ap₂, _∙_}
 use mathlib.Core.Bool.{true}
 use mathlib.Core.List.{List, [], _∷_}
 use native.Mathlib.Omega.{arith}
-use borrow.Author.Tests.{le-leb, ltb-true, eq-eqb}
+use borrow.Author.Tests.{le-leb, ltb-true, eqb-true, eq-eqb}
 use lib.ListN.{length, getD, take, drop, replicate, length-replicate, length-drop}
 use lib.Seq.{ext-getD, getD-take, getD-drop, length-take-le}
-use lib.Dec.{ltb}
+use lib.Dec.{eqb, ltb}
 use Rattle.numbers.specs.Choice.{unless, every, tab}
 use Rattle.numbers.specs.Sums.{sumTo}
 use Rattle.numbers.proofs.Every.{every-at, length-tab, getD-tab, tab-same}
@@ -18,7 +18,7 @@ use Rattle.block.specs.Writer.{sealed, written, bodyOf}
 use Rattle.block.proofs.Laid.{body-passes}
 use Rattle.block.proofs.Sealed.{length-sealed, written-sealed}
 use Rattle.site.specs.declared.SiteRead.{SiteRead}
-use Rattle.site.specs.Fields.{fieldCount, limits, withinLimits, fieldsFit}
+use Rattle.site.specs.Fields.{lastAge, ages, fieldCount, limits, withinLimits, fieldsFit}
 use Rattle.site.specs.Scenario.{scenarioOf, motherOf}
 use Rattle.site.specs.Site.{siteForm, siteRefusal, readAs, readSite}
 use Rattle.site.proofs.FieldsWithin.{read-refusal}
@@ -37,19 +37,23 @@ use Rattle.exposure.specs.declared.Exposure.{Exposure}
 use Rattle.exposure.specs.Exposure.{exposureAt}
 use Rattle.intake.specs.Intake.{airIntake, waterIntake, soilIntake, dustConcentration, dustIntake, intakesOf, refusalOf, intakeRefusal}
 use Rattle.uptake.specs.Age.{ageOf}
+use Rattle.uptake.proofs.Laws.{age-law}
 use Rattle.uptake.specs.Uptake.{percentOf, saturationOf, absorbable, absorbableTotal, passiveUptake, activePart, activeUptake, mediumUptake, airUptake, dayUptake}
 use Rattle.blood.specs.Birth.{birthBlood, birthTotal, birthPlasma, birthRedCells, birthOrgan, birthLead, birthState}
 use Rattle.state.specs.State.{isState, stateRefusal}
+use Rattle.state.proofs.SoundState.{Sound, passed-sound, state-passes}
 use Rattle.steps.specs.Steps.{stepsADay, daysAMonth, stepsRefusal}
 use Rattle.steps.proofs.Shares.{sumOf, days-total}
 use Rattle.steps.proofs.Loops.{step-conserves}
 use Rattle.child.specs.declared.BirthAnswer.{BirthAnswer}
 use Rattle.child.specs.Birth.{newborn, newbornRefusal, acceptedBirth}
 use Rattle.child.specs.Month.{monthAfter, exposureIn, monthUptake, monthRates, monthShares, childRefusal}
+use Rattle.child.specs.Months.{monthsBy}
 use Rattle.files.specs.Files.{beforeBookRefusal, filesRefusal, scenarioIn, tableIn}
 use Rattle.engine.specs.Birth.{birthRefusal, birthOf}
-use Rattle.engine.specs.Month.{monthRefusal}
-use Rattle.conservation.proofs.WholeMonths.{month-refusal}
+use Rattle.engine.specs.Month.{monthRefusal, monthOf}
+use Rattle.engine.specs.Run.{startRefusal, runOf}
+use Rattle.conservation.proofs.WholeMonths.{month-refusal, month-accepted}
 use Rattle.conservation.specs.Witness.{witnessFields, witnessRow, witnessTable, witnessBlock, witnessFiles, SomethingAccepted}
 
 -- ---- the site file
@@ -80,10 +84,6 @@ site-read =
     ∙ fields-read-back witnessFields zeros fields-long fields-fit zeros-long
 
 -- ---- the book
-
-row-long : length witnessRow ≡ numbersARow
-unfolding witnessRow
-row-long = refl
 
 row-small : (k : ℕ) → getD witnessRow k 0 < 4_294_967_296
 unfolding witnessRow every
@@ -234,25 +234,36 @@ birth-is : birthOf witnessFiles ≡ acceptedBirth child
 unfolding birthOf
 birth-is = rw (birth-passes, newborn-is)
 
--- ---- the first month
+-- ---- a month
 
-exposure : Exposure
-exposure = exposureIn (scenarioOf witnessFields) 1
+-- the diet is the same at every age
+abbrev exposure : ℕ → Exposure
+exposure age = exposureAt (scenarioOf witnessFields) age
 
-intakes-pass : intakeRefusal exposure ≡ 0
-unfolding exposure witnessFields scenarioOf ageOf exposureAt airIntake waterIntake soilIntake dustConcentration dustIntake intakesOf refusalOf intakeRefusal unless
-intakes-pass = refl
+abbrev uptakeAt : ℕ → ℕ
+uptakeAt age = dayUptake (exposure age) (row .«body_weight») (row .«body_weight»)
 
-day-is : dayUptake exposure (row .«body_weight») (row .«body_weight») ≡ 2_484_000
-unfolding exposure row witnessRow tab witnessFields scenarioOf ageOf exposureAt airIntake waterIntake soilIntake dustConcentration dustIntake intakesOf
+ages-pass : every (λ (age : ℕ). eqb (intakeRefusal (exposure age)) 0) 0 ages ≡ true
+unfolding every witnessFields scenarioOf exposureAt airIntake waterIntake soilIntake dustConcentration dustIntake intakesOf refusalOf intakeRefusal unless
+ages-pass = refl
+
+ages-uptake : every (λ (age : ℕ). eqb (uptakeAt age) 2_484_000) 0 ages ≡ true
+unfolding every row witnessRow tab witnessFields scenarioOf exposureAt airIntake waterIntake soilIntake dustConcentration dustIntake intakesOf
     sumTo percentOf saturationOf absorbable absorbableTotal passiveUptake activePart activeUptake mediumUptake airUptake dayUptake
-day-is = refl
+ages-uptake = refl
 
-uptake-is : monthUptake (scenarioOf witnessFields) witnessTable 1 ≡ 2_484_000
-unfolding monthUptake exposure row
-uptake-is =
-    ap₂ (λ (w w24 : Row). dayUptake (exposureIn (scenarioOf witnessFields) 1) (w .«body_weight») (w24 .«body_weight»)) (table-row 1 (omega arith)) (table-row 24 (omega arith))
-    ∙ day-is
+module _ (m : ℕ) (most : m ≤ lastMonth) where
+  age-most : ageOf m ≤ lastAge
+  age-most = age-law m most
+
+  intakes-pass : intakeRefusal (exposureIn (scenarioOf witnessFields) m) ≡ 0
+  intakes-pass = eqb-true _ 0 (every-at (λ (age : ℕ). eqb (intakeRefusal (exposure age)) 0) 0 ages ages-pass (ageOf m) (omega arith) (omega (arith, age-most)))
+
+  uptake-is : monthUptake (scenarioOf witnessFields) witnessTable m ≡ 2_484_000
+  unfolding monthUptake row
+  uptake-is =
+      ap₂ (λ (w w24 : Row). dayUptake (exposureIn (scenarioOf witnessFields) m) (w .«body_weight») (w24 .«body_weight»)) (table-row m most) (table-row 24 (omega arith))
+      ∙ eqb-true _ 2_484_000 (every-at (λ (age : ℕ). eqb (uptakeAt age) 2_484_000) 0 ages ages-uptake (ageOf m) (omega arith) (omega (arith, age-most)))
 
 -- steps whose uptakes fit beside the burden are not refused
 module _ (rates : State → Rates) (limits : (b : State) → RateLimits (rates b)) where
@@ -263,24 +274,60 @@ module _ (rates : State → Rates) (limits : (b : State) → RateLimits (rates b
       let kept = step-conserves (rates a) a u (limits a) in
       rw (le-leb (burden (a .lead) + u) burdenLimit (omega arith)) (steps-pass (next (rates a) a u) us (omega arith))
 
-month-steps-pass : stepsRefusal (monthRates witnessTable 1) child (monthShares stepsADay (scenarioOf witnessFields) witnessTable 1) ≡ 0
-unfolding monthShares
-month-steps-pass =
-    let limits = row-within (rowOf witnessTable 1) (rows-fit 1 (omega arith)) in
-    let total = days-total stepsADay (monthUptake (scenarioOf witnessFields) witnessTable 1) (omega arith) daysAMonth in
-    steps-pass (monthRates witnessTable 1) (λ b. limits .rates) child _ (omega (arith, burden-is, uptake-is))
+-- what a month brings: thirty days of T
+abbrev monthBrings : ℕ
+monthBrings = 74_520_000
 
-first-month : monthAfter child ≡ 1
+-- a month of a sound child with room for what it brings
+module _ (a : State) (sound : Sound a) (before : a .month < lastMonth) (room : burden (a .lead) + monthBrings ≤ burdenLimit) where
+  month-most : monthAfter a ≤ lastMonth
+  month-most = omega arith
+
+  month-steps-pass : stepsRefusal (monthRates witnessTable (monthAfter a)) a (monthShares stepsADay (scenarioOf witnessFields) witnessTable (monthAfter a)) ≡ 0
+  unfolding monthShares
+  month-steps-pass =
+      let limits = row-within (rowOf witnessTable (monthAfter a)) (rows-fit (monthAfter a) month-most) in
+      let total = days-total stepsADay (monthUptake (scenarioOf witnessFields) witnessTable (monthAfter a)) (omega arith) daysAMonth in
+      steps-pass (monthRates witnessTable (monthAfter a)) (λ b. limits .rates) a _ (omega (arith, uptake-is (monthAfter a) month-most))
+
+  child-month-passes : childRefusal stepsADay a (scenarioOf witnessFields) witnessTable ≡ 0
+  unfolding childRefusal
+  child-month-passes = rw (state-passes sound before, intakes-pass (monthAfter a) month-most, month-steps-pass)
+
+  month-passes : monthRefusal stepsADay a witnessFiles ≡ 0
+  unfolding monthRefusal
+  month-passes = rw (files-pass, scenario-is, book-reads .table, child-month-passes)
+
+-- ---- the run
+
+uptake-of-files : (m : ℕ) → m ≤ lastMonth → monthUptake (scenarioIn witnessFiles) (tableIn witnessFiles) m ≡ 2_484_000
+uptake-of-files m most = rw (scenario-is, book-reads .table) (uptake-is m most)
+
+months-pass : (n : ℕ) (a : State) → Sound a → a .month + n ≤ lastMonth → burden (a .lead) + n * monthBrings ≤ burdenLimit
+    → monthsBy (λ (b : State). monthOf stepsADay b witnessFiles) n a .refusal ≡ 0
+unfolding monthsBy
+months-pass zero a sound h room = refl
+months-pass (suc n) a sound h room =
+    let passed = month-passes a sound (omega arith) (omega arith) in
+    let done = month-accepted (λ f. stepsADay) (λ f. omega arith) a witnessFiles passed in
+    let brought = uptake-of-files (monthAfter a) (omega arith) in
+    rw (month-refusal stepsADay a witnessFiles ∙ passed)
+    (months-pass n (monthOf stepsADay a witnessFiles .state) (done .sound) (omega (arith, done .whole .number)) (omega (arith, done .balance .lead, brought)))
+
+child-sound : Sound child
+child-sound = passed-sound child child-passes
+
+first-month : child .month ≡ 0
 unfolding child birthState
 first-month = refl
 
-child-month-passes : childRefusal stepsADay child (scenarioOf witnessFields) witnessTable ≡ 0
-unfolding childRefusal exposure
-child-month-passes = rw (child-passes, first-month, intakes-pass, month-steps-pass)
+starts : startRefusal witnessFiles lastMonth ≡ 0
+unfolding startRefusal unless
+starts = rw (eq-eqb (length (witnessFiles .site)) blockBytes site-long, eq-eqb (length (witnessFiles .book)) bookBytes all-book-long, birth-passes)
 
-month-passes : monthRefusal stepsADay child witnessFiles ≡ 0
-unfolding monthRefusal
-month-passes = rw (files-pass, scenario-is, book-reads .table, child-month-passes)
+run-passes : runOf stepsADay witnessFiles lastMonth .refusal ≡ 0
+unfolding runOf
+run-passes = rw (starts, birth-is) (months-pass lastMonth child child-sound (omega (arith, first-month)) (omega (arith, burden-is)))
 
 pub something-accepted : SomethingAccepted
 something-accepted =
@@ -288,6 +335,9 @@ something-accepted =
       site = site-passes;
       book = book-reads .refusal;
       birth = ap (λ (x : BirthAnswer). x .refusal) birth-is;
-      month = rw birth-is (month-refusal stepsADay child witnessFiles ∙ month-passes);
-      uptake = rw (scenario-is, book-reads .table) uptake-is;
+      month =
+          rw birth-is
+          (month-refusal stepsADay child witnessFiles ∙ month-passes child child-sound (omega (arith, first-month)) (omega (arith, burden-is)));
+      uptake = uptake-of-files 1 (omega arith);
+      run = run-passes;
     }

@@ -1,4 +1,4 @@
--- Something is accepted: files whose birth and first month are accepted, with an uptake that is not 0, so that no law speaks of nothing.
+-- Something is accepted: files whose birth, first month and whole run are accepted, with an uptake that is not 0, so that no law speaks of nothing.
 -- Assumes nothing.
 use Prim.Native.Nat.{ℕ, _*_, _/_, _%_}
 use mathlib.Core.Path.{_≡_}
@@ -9,7 +9,7 @@ use Rattle.block.specs.Block.{byteAt, blockBytes}
 use Rattle.block.specs.Writer.{sealed, bodyOf}
 use Rattle.site.specs.Fields.{ages}
 use Rattle.site.specs.Site.{siteForm, siteRefusal}
-use Rattle.row.specs.Row.{unit, numbersARow}
+use Rattle.row.specs.Row.{unit, numbersARow, lastMonth}
 use Rattle.book.specs.Book.{bookBytes, tableNumbers, bookForm, bookRefusal}
 use Rattle.book.specs.Laws.{blockPart}
 use Rattle.steps.specs.Steps.{stepsADay}
@@ -17,6 +17,7 @@ use Rattle.child.specs.Month.{monthUptake}
 use Rattle.files.specs.Files.{Files, filesOf, scenarioIn, tableIn}
 use Rattle.engine.specs.Birth.{birthOf}
 use Rattle.engine.specs.Month.{monthOf}
+use Rattle.engine.specs.Run.{runOf}
 
 -- a diet of 2,700,000 pg a day, all of it absorbable and 20 % passively, a saturation of 24,300,000 and a mother with 1,000; all else 0
 unfoldable pub witnessFields : List ℕ
@@ -66,10 +67,11 @@ witnessFiles =
     filesOf (sealed (bodyOf siteForm witnessFields))
     (tab bookBytes (λ (j : ℕ). byteAt (witnessBlock (j / blockBytes)) (j % blockBytes)))
 
--- they are accepted, by the readers, at birth and in the first month, whose T is not 0
+-- they are accepted, by the readers, at birth, in the first month, whose T is not 0, and in a run of 84 months
 pub record SomethingAccepted : Type 0 where
   pub site : siteRefusal (witnessFiles .site) ≡ 0
   pub book : bookRefusal (witnessFiles .book) ≡ 0
   pub birth : birthOf witnessFiles .refusal ≡ 0
   pub month : monthOf stepsADay (birthOf witnessFiles .state) witnessFiles .refusal ≡ 0
   pub uptake : monthUptake (scenarioIn witnessFiles) (tableIn witnessFiles) 1 ≡ 2_484_000
+  pub run : runOf stepsADay witnessFiles lastMonth .refusal ≡ 0

@@ -33,7 +33,7 @@ pub record Delivery : Type 0 where
   -- after an accepted birth never 20; a run is birth and month calls, and is never refused with 20 or 21
   pub never-20 : calls.StateLaw
   pub run-is-calls : calls.RunLaws
-  -- something is accepted: some files, their birth and their first month, with T not 0
+  -- something is accepted: some files, their birth, their first month, with T not 0, and their run
   pub something-accepted : witness.SomethingAccepted
   -- DEMAND 2. Intake, uptake, birth, every step and the blood figure equal the equations, rounding included
   -- the bench table as a whole
