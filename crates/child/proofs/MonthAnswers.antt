@@ -16,7 +16,7 @@ use Rattle.kinetics.specs.declared.State.{State}
 use Rattle.child.specs.declared.BirthAnswer.{BirthAnswer}
 use Rattle.child.specs.declared.MonthAnswer.{MonthAnswer}
 use Rattle.steps.specs.declared.Reached.{Reached}
-use Rattle.state.specs.State.{monthLimit, stateRefusal}
+use Rattle.state.specs.State.{monthUptakeLimit, stateRefusal}
 use Rattle.steps.specs.Steps.{stepsADay, daysAMonth, daysShares, stepsRefusal}
 use Rattle.child.specs.Birth.{acceptedBirth, refusedBirth, birthAnswer}
 use Rattle.child.specs.Month.{monthAfter, exposureIn, monthUptake, monthRates, monthShares, refusedMonth, acceptedMonth, monthAnswer, childRefusal, monthLast}
@@ -46,7 +46,7 @@ month-after-most a passed = omega (arith, passed-before a passed)
 
 -- thirty days of six steps can be taken from a state that a month can follow
 pub month-steppable : {row : Row} (a : State) {t : ℕ} → stateRefusal a ≡ 0 → RowLimits row → t ≤ 6_000_000_000
-    → Steppable (λ b. row .rates) a stepsADay t monthLimit
+    → Steppable (λ b. row .rates) a stepsADay t monthUptakeLimit
 month-steppable a passed limits daily =
     let sound = passed-sound a passed in
     record {

@@ -14,13 +14,13 @@ use Rattle.numbers.proofs.Refusals.{firstOf-none, firstOf-not, unless-none, unl
 use Rattle.row.specs.Row.{lastMonth}
 use Rattle.kinetics.specs.declared.State.{State}
 use Rattle.kinetics.specs.Step.{burden, burdenLimit}
-use Rattle.state.specs.State.{ledgerSum, monthLimit, isState, stateRefusals, stateRefusal}
+use Rattle.state.specs.State.{ledgerSum, monthUptakeLimit, isState, stateRefusals, stateRefusal}
 
 -- what 20 tests of a state
 pub record Sound (a : State) : Type 0 where
   pub month : a .month ≤ lastMonth
   pub held : burden (a .lead) ≤ burdenLimit
-  pub all : burden (a .lead) + ledgerSum a ≤ burdenLimit + a .month * monthLimit
+  pub all : burden (a .lead) + ledgerSum a ≤ burdenLimit + a .month * monthUptakeLimit
 
 pub sound-is-state : {a : State} → Sound a → isState a ≡ true
 unfolding isState
