@@ -12,6 +12,7 @@ use Rattle.row.specs.declared.Rates.{Rates}
 use Rattle.row.specs.Row.{rowOf, lastMonth}
 use Rattle.row.specs.Limits.{RateLimits}
 use Rattle.uptake.specs.Age.{ageOf}
+use Rattle.uptake.specs.Laws.{dayLimit}
 use Rattle.uptake.proofs.Laws.{age-law, day-law}
 use Rattle.kinetics.specs.declared.State.{State}
 use Rattle.kinetics.specs.Step.{burden, burdenLimit}
@@ -84,7 +85,7 @@ module _ (steps : Files → ℕ) (pos : (f : Files) → 0 < steps f) (a : State)
   month-most = month-after-most a (child-none 0)
 
   -- T of an accepted call
-  T-most : T ≤ 6_000_000_000
+  T-most : T ≤ dayLimit
   unfolding monthUptake
   T-most =
       day-law (exposureIn (scenarioIn f) (monthAfter a)) _ _
