@@ -9,7 +9,7 @@ use native.Mathlib.Numerals.{add-one}
 use native.Mathlib.Omega.{arith}
 use lib.ListN.{length, getD, take, drop, length-append, length-drop, List·getD-append}
 use lib.Seq.{getD-append-add, take-at, length-take-le, take-all}
-use Rattle.numbers.specs.Choice.{unless, orElse, tab}
+use Rattle.numbers.specs.Choice.{unless, tab}
 use Rattle.numbers.proofs.Every.{every-shift, tab-same, tab-append, length-tab}
 use Rattle.numbers.proofs.Refusals.{orElse-first, orElse-last}
 use Rattle.block.specs.Block.{blockBytes, blockRefusal, fieldsOf, blockAt}
