@@ -19,7 +19,7 @@ use Rattle.book.specs.Book.{bookBlocks, numbersABlock, tableNumbers, boo
 use Rattle.book.specs.Laws.{BlockReads, BodyReadBack, NumbersReadBack, blockPart, BookReadBack}
 use Rattle.book.proofs.RowsWithin.{whole-book, number-read, accepted-numbers}
 use Rattle.book.proofs.Decode.{rows-in-block}
-use Rattle.row.proofs.Tests.{monthFits}
+use Rattle.row.proofs.RowTests.{monthFits}
 
 pub body-read-back : BodyReadBack
 unfolding bookBlockRefusal unless

@@ -13,11 +13,11 @@ use Rattle.row.specs.Row.{rowOf, lastMonth}
 use Rattle.row.specs.Limits.{RateLimits}
 use Rattle.uptake.specs.Age.{ageOf}
 use Rattle.uptake.specs.Laws.{dayLimit}
-use Rattle.uptake.proofs.Laws.{age-law, day-law}
+use Rattle.uptake.proofs.UptakeBounds.{age-law, day-law}
 use Rattle.kinetics.specs.declared.State.{State}
 use Rattle.kinetics.specs.Step.{burden, burdenLimit}
 use Rattle.blood.specs.Birth.{birthState}
-use Rattle.blood.proofs.Newborn.{birth-law}
+use Rattle.blood.proofs.BirthAmounts.{birth-law}
 use Rattle.files.specs.Files.{Files, scenarioIn, tableIn}
 use Rattle.steps.specs.Steps.{daysAMonth, stepsFrom, lastFrom}
 use Rattle.engine.specs.Birth.{birthRefusals, birthRefusal, birthOf}

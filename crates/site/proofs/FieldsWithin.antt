@@ -12,7 +12,7 @@ use borrow.Author.Tests.{leb-true}
 use Rattle.numbers.specs.Choice.{every}
 use Rattle.numbers.proofs.Every.{and-left, and-right, every-at}
 use Rattle.numbers.proofs.Refusals.{firstOf-none, unless-none, answer-number, OfInput, unless-of-input, firstOf-of-input}
-use Rattle.block.proofs.Laws.{block-of-input}
+use Rattle.block.proofs.BlockRefusals.{block-of-input}
 use Rattle.block.proofs.Sealed.{accepted-check}
 use Rattle.site.specs.declared.Scenario.{Scenario}
 use Rattle.site.specs.declared.SiteRead.{SiteRead}
@@ -20,7 +20,7 @@ use Rattle.site.specs.Fields.{fieldCount, singlesAt, motherAt, at, limit
 use Rattle.site.specs.Scenario.{scenarioOf}
 use Rattle.site.specs.Site.{siteForm, siteFields, siteRefusals, siteRefusal, readAs, refusedWith, readSite}
 use Rattle.site.specs.Laws.{MotherWithin, RightCheck}
-use Rattle.site.proofs.Tests.{fieldWithin}
+use Rattle.site.proofs.FieldTests.{fieldWithin}
 
 module _ (fields : List ℕ) (fit : fieldsFit fields ≡ true) where
   -- each field is at most its limit
