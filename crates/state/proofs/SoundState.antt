@@ -2,13 +2,12 @@
 -- Assumes nothing.
 use Prim.Native.Nat.{ℕ, _+_, _*_, _≤_, _<_}
 use mathlib.Core.Path.{_≡_}
-use mathlib.Core.Bool.{Bool, true, false, not}
-use mathlib.Core.List.{[], _∷_}
+use mathlib.Core.Bool.{true, not}
 use native.Mathlib.Omega.{arith}
 use borrow.Author.Tests.{leb-true, le-leb, eqb-false, ne-eqb, not-true}
 use lib.ListN.{getD}
 use lib.Dec.{leb, eqb}
-use Rattle.numbers.specs.Choice.{unless, firstOf}
+use Rattle.numbers.specs.Choice.{unless}
 use Rattle.numbers.proofs.Every.{and-true, and-left, and-right}
 use Rattle.numbers.proofs.Refusals.{firstOf-none, firstOf-not, unless-none, unless-not}
 use Rattle.row.specs.Row.{lastMonth}
