@@ -1,2 +1,2 @@
+pub mod BirthAmounts
 pub mod FigureFits
-pub mod Newborn

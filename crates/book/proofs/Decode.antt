@@ -9,15 +9,15 @@ use native.Mathlib.Numerals.{add-one}
 use native.Mathlib.Omega.{arith}
 use lib.ListN.{length, getD, take, drop, length-append, length-drop, List·getD-append}
 use lib.Seq.{getD-append-add, take-at, length-take-le, take-all}
-use Rattle.numbers.specs.Choice.{unless, orElse, tab}
+use Rattle.numbers.specs.Choice.{unless, tab}
 use Rattle.numbers.proofs.Every.{every-shift, tab-same, tab-append, length-tab}
 use Rattle.numbers.proofs.Refusals.{orElse-first, orElse-last}
 use Rattle.block.specs.Block.{blockBytes, blockRefusal, fieldsOf, blockAt}
-use Rattle.block.proofs.Laws.{field}
+use Rattle.block.proofs.BlockRefusals.{field}
 use Rattle.row.specs.Row.{numbersARow, rowsABlock, rowNumbers, rowFrom, rowOf, rowFits, rowsFit}
 use Rattle.book.specs.Book.{bookBlocks, numbersABlock, tableNumbers, bookForm, blockNumbers, bookBlockRefusal, blocksRefusal, bookNumber, numbersOf}
 use Rattle.book.specs.Internal.{placed, BlockDecoded, BookDecoded}
-use Rattle.row.proofs.Tests.{monthFits}
+use Rattle.row.proofs.RowTests.{monthFits}
 
 -- the part of the book that the code lends is the block
 lent-block : (book : List ℕ) (n : ℕ) → take (blockBytes * n + blockBytes - blockBytes * n) (drop (blockBytes * n) book) ≡ blockAt book n

@@ -10,7 +10,7 @@ use lib.Seq.{length-take-le, getD-take, getD-drop, ext-getD}
 use Rattle.numbers.proofs.Every.{every-of, length-tab}
 use Rattle.numbers.proofs.Lists.{getD-below}
 use Rattle.numbers.specs.Choice.{unless}
-use Rattle.block.specs.Block.{blockRefusal, fieldsOf, blockAt}
+use Rattle.block.specs.Block.{fieldsABlock, blockRefusal, fieldsOf, blockAt}
 use Rattle.block.specs.Writer.{sealed, bodyOf}
 use Rattle.block.proofs.Laid.{body-passes, fields-body}
 use Rattle.block.proofs.Sealed.{fields-sealed, sealed-passes, written-sealed}
@@ -19,7 +19,7 @@ use Rattle.book.specs.Book.{bookBlocks, numbersABlock, tableNumbers, boo
 use Rattle.book.specs.Laws.{BlockReads, BodyReadBack, NumbersReadBack, blockPart, BookReadBack}
 use Rattle.book.proofs.RowsWithin.{whole-book, number-read, accepted-numbers}
 use Rattle.book.proofs.Decode.{rows-in-block}
-use Rattle.row.proofs.Tests.{monthFits}
+use Rattle.row.proofs.RowTests.{monthFits}
 
 pub body-read-back : BodyReadBack
 unfolding bookBlockRefusal unless
@@ -35,7 +35,7 @@ body-read-back book body target n below room here passes fit =
 
 pub numbers-read-back : NumbersReadBack
 numbers-read-back book numbers target n below room here long small fit =
-    let few : length numbers ≤ 126 = omega arith in
+    let few : length numbers ≤ fieldsABlock = omega arith in
     let same : blockNumbers (bodyOf (bookForm n) numbers) ≡ numbers =
     ap (λ (k : ℕ). fieldsOf k (bodyOf (bookForm n) numbers)) (sym long) ∙ fields-body (bookForm n) numbers few small in
     rw same at

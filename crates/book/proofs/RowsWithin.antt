@@ -12,11 +12,11 @@ use Rattle.numbers.specs.Choice.{unless}
 use Rattle.numbers.proofs.Every.{every-at, getD-tab}
 use Rattle.numbers.proofs.Refusals.{orElse-none, firstOf-none, unless-none, OfInput, unless-of-input, orElse-of-input, firstOf-of-input}
 use Rattle.block.specs.Block.{fieldsOf, blockAt}
-use Rattle.block.proofs.Laws.{field, block-of-input}
+use Rattle.block.proofs.BlockRefusals.{field, block-of-input}
 use Rattle.block.proofs.Sealed.{accepted-check}
 use Rattle.row.specs.Row.{rowsABlock, rowOf, rowFits, rowsFit}
 use Rattle.row.proofs.RowWithin.{row-within}
-use Rattle.row.proofs.Tests.{monthFits}
+use Rattle.row.proofs.RowTests.{monthFits}
 use Rattle.book.specs.Book.{bookBlocks, bookBytes, numbersABlock, tableNumbers, bookForm, blockNumbers, bookBlockRefusals, bookBlockRefusal, blocksRefusal, bookRefusals, bookRefusal, bookNumber, numbersOf, bookTable}
 use Rattle.book.specs.Laws.{RowsWithin, RightChecks, WholeBook}
 use Rattle.book.proofs.Decode.{number-in-block, row-in-block}

@@ -11,7 +11,8 @@ use Rattle.kinetics.specs.Step.{burden, burdenLimit}
 use Rattle.child.specs.declared.BirthAnswer.{BirthAnswer}
 use Rattle.state.specs.State.{zeroState}
 use Rattle.child.specs.Birth.{newborn, newbornRefusal, birthAnswer}
-use Rattle.state.proofs.StateCheck.{cap, capped-over, capped-within}
+use Rattle.state.specs.Internal.{cap}
+use Rattle.state.proofs.StateCheck.{capped-over, capped-within}
 
 -- birth from accepted files, by its capped burden
 module _ (scenario : Scenario) (table : List ℕ) (child : State) (born : child ≡ newborn scenario table) {held : ℕ} (eh : held ≡ min (burden (child .lead)) cap) where

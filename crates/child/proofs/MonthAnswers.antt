@@ -16,13 +16,13 @@ use Rattle.kinetics.specs.declared.State.{State}
 use Rattle.child.specs.declared.BirthAnswer.{BirthAnswer}
 use Rattle.child.specs.declared.MonthAnswer.{MonthAnswer}
 use Rattle.steps.specs.declared.Reached.{Reached}
-use Rattle.state.specs.State.{monthLimit, stateRefusal}
+use Rattle.state.specs.State.{monthUptakeLimit, stateRefusal}
 use Rattle.steps.specs.Steps.{stepsADay, daysAMonth, daysShares, stepsRefusal}
 use Rattle.child.specs.Birth.{acceptedBirth, refusedBirth, birthAnswer}
 use Rattle.child.specs.Month.{monthAfter, exposureIn, monthUptake, monthRates, monthShares, refusedMonth, acceptedMonth, monthAnswer, childRefusal, monthLast}
 use Rattle.exposure.specs.declared.Exposure.{Exposure}
 use Rattle.uptake.specs.Uptake.{dayUptake}
-use Rattle.uptake.specs.Laws.{Weights}
+use Rattle.uptake.specs.Laws.{Weights, dayLimit}
 use Rattle.steps.specs.Internal.{Steppable, ReachedBy}
 use Rattle.child.specs.Internal.{Decoded, steppedMonth, monthFrom, childMonth}
 use Rattle.state.proofs.SoundState.{passed-sound, passed-before}
@@ -45,8 +45,8 @@ pub month-after-most : (a : State) → stateRefusal a ≡ 0 → monthAfter a ≤
 month-after-most a passed = omega (arith, passed-before a passed)
 
 -- thirty days of six steps can be taken from a state that a month can follow
-pub month-steppable : {row : Row} (a : State) {t : ℕ} → stateRefusal a ≡ 0 → RowLimits row → t ≤ 6_000_000_000
-    → Steppable (λ b. row .rates) a stepsADay t monthLimit
+pub month-steppable : {row : Row} (a : State) {t : ℕ} → stateRefusal a ≡ 0 → RowLimits row → t ≤ dayLimit
+    → Steppable (λ b. row .rates) a stepsADay t monthUptakeLimit
 month-steppable a passed limits daily =
     let sound = passed-sound a passed in
     record {

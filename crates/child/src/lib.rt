@@ -12,6 +12,7 @@ ghost use Rattle.kinetics.specs.Step.{burden, burdenLimit};
 ghost use Rattle.row.specs.Row.{lastMonth};
 ghost use Rattle.book.specs.Book.{tableNumbers};
 ghost use Rattle.state.specs.State.{stateRefusal};
+ghost use Rattle.uptake.specs.Laws.{dayLimit};
 ghost use Rattle.steps.specs.Steps.{stepsADay};
 ghost use Rattle.child.specs.Birth.{newborn, newbornRefusal, birthAnswer};
 ghost use Rattle.child.specs.Month.{refusedMonth, acceptedMonth};
@@ -100,7 +101,7 @@ fn accepted_month(state: State, last: State, row: Row) -> MonthAnswer
 
 // The month's steps, given its row and its day's uptake t.
 fn stepped_month(state: State, row: Row, t: u64) -> MonthAnswer
-    requires { ⌜ (stateRefusal state ≡ 0) × (RowLimits row) × (t ≤ 6_000_000_000) ⌝ }
+    requires { ⌜ (stateRefusal state ≡ 0) × (RowLimits row) × (t ≤ dayLimit) ⌝ }
     ensures { λ r. ⌜ r ≡ steppedMonth stepsADay (λ b. row .rates) state row t ⌝ }
 {
     let rates = row.rates;

@@ -12,11 +12,12 @@ use Rattle.row.specs.declared.Rates.{Rates}
 use Rattle.row.specs.Row.{rowOf, lastMonth}
 use Rattle.row.specs.Limits.{RateLimits}
 use Rattle.uptake.specs.Age.{ageOf}
-use Rattle.uptake.proofs.Laws.{age-law, day-law}
+use Rattle.uptake.specs.Laws.{dayLimit}
+use Rattle.uptake.proofs.UptakeBounds.{age-law, day-law}
 use Rattle.kinetics.specs.declared.State.{State}
 use Rattle.kinetics.specs.Step.{burden, burdenLimit}
 use Rattle.blood.specs.Birth.{birthState}
-use Rattle.blood.proofs.Newborn.{birth-law}
+use Rattle.blood.proofs.BirthAmounts.{birth-law}
 use Rattle.files.specs.Files.{Files, scenarioIn, tableIn}
 use Rattle.steps.specs.Steps.{daysAMonth, stepsFrom, lastFrom}
 use Rattle.engine.specs.Birth.{birthRefusals, birthRefusal, birthOf}
@@ -84,7 +85,7 @@ module _ (steps : Files → ℕ) (pos : (f : Files) → 0 < steps f) (a : State)
   month-most = month-after-most a (child-none 0)
 
   -- T of an accepted call
-  T-most : T ≤ 6_000_000_000
+  T-most : T ≤ dayLimit
   unfolding monthUptake
   T-most =
       day-law (exposureIn (scenarioIn f) (monthAfter a)) _ _

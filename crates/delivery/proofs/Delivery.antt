@@ -7,9 +7,9 @@ use Rattle.row.proofs.RowWithin as row
 use Rattle.book.proofs.RowsWithin as book
 use Rattle.book.proofs.ReadBack as book-read
 use Rattle.intake.proofs.Refusal9 as intake
-use Rattle.uptake.proofs.Laws as uptake
+use Rattle.uptake.proofs.UptakeBounds as uptake
 use Rattle.margin.proofs.StepLaws as margin
-use Rattle.blood.proofs.Newborn as newborn
+use Rattle.blood.proofs.BirthAmounts as newborn
 use Rattle.blood.proofs.FigureFits as figure
 use Rattle.steps.proofs.ShareSum as shares
 use Rattle.conservation.proofs.Bench as bench

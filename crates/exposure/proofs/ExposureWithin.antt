@@ -10,7 +10,7 @@ use lib.Dec.{leb}
 use Rattle.numbers.specs.Choice.{every}
 use Rattle.numbers.proofs.Lists.{each-getD}
 use Rattle.site.specs.declared.Scenario.{Scenario}
-use Rattle.site.specs.Fields.{lastAge, ages, singlesAt, at, limits, single, fieldsFit}
+use Rattle.site.specs.Fields.{lastAge, ages, singlesAt, singles, at, limits, single, fieldsFit}
 use Rattle.site.specs.Site.{readSite}
 use Rattle.site.proofs.FieldsWithin.{field-le, range-le, saturation-ge, shares-le, accepted-fit}
 use Rattle.exposure.specs.Exposure.{percentagesFrom, exposureAt}
@@ -24,11 +24,11 @@ module _ (fields : List ℕ) (fit : fieldsFit fields ≡ true) where
   group-le group v e room age h = range-le fields fit v (ages * group) ages e (omega arith) (ages * group + age) (omega arith) (omega arith)
 
   -- a field that stands singly
-  single-le : (k : ℕ) → k < 24 → single fields k ≤ single limits k
+  single-le : (k : ℕ) → k < singles → single fields k ≤ single limits k
   single-le k h = field-le fields fit (singlesAt + k) (omega arith)
 
   -- five percentages that stand singly, from k on
-  percentage-le : (k : ℕ) → every (λ (place : ℕ). leb (at limits place) 100) (singlesAt + k) 5 ≡ true → k + 4 < 24 → (medium : ℕ) → medium < 5
+  percentage-le : (k : ℕ) → every (λ (place : ℕ). leb (at limits place) 100) (singlesAt + k) 5 ≡ true → k + 4 < singles → (medium : ℕ) → medium < 5
       → getD (percentagesFrom fields k) medium 0 ≤ 100
   percentage-le k e room medium h =
       let within : (place : ℕ) → k ≤ place → place < k + 5 → single fields place ≤ 100 =

@@ -15,13 +15,13 @@ use Rattle.site.specs.Fields.{at}
 use Rattle.exposure.specs.declared.Exposure.{Exposure}
 use Rattle.exposure.specs.Limits.{ExposureLimits}
 use Rattle.intake.specs.declared.Intakes.{Intakes}
-use Rattle.intake.specs.Intake.{airIntake, waterMedium, dustMedium, soilMedium, intakesOf, intakeOf, passes, refusalOf, intakeRefusal}
+use Rattle.intake.specs.Intake.{airIntake, waterMedium, dustMedium, soilMedium, intakesOf, intakeOf, intakeFits, refusalOf, intakeRefusal}
 use Rattle.intake.specs.Laws.{Passed, RefusalLaw}
 
 -- the tests of the intakes, in their order, and those that are left after the first k
 abbrev pub intakeTests : Intakes → List Bool
 intakeTests i =
-    passes (i .air) ∷ passes (at (i .media) waterMedium) ∷ passes (at (i .media) soilMedium) ∷ passes (at (i .media) dustMedium) ∷ []
+    intakeFits (i .air) ∷ intakeFits (at (i .media) waterMedium) ∷ intakeFits (at (i .media) soilMedium) ∷ intakeFits (at (i .media) dustMedium) ∷ []
 
 abbrev pub TestsLeft : ℕ → Intakes → Type 0
 TestsLeft k i = allOf (drop k (intakeTests i)) ≡ allOf (intakeTests i)

@@ -74,13 +74,13 @@ abbrev pub intakeOf : Exposure → ℕ → ℕ
 intakeOf e medium = at (intakesOf e .media) medium
 
 -- an intake is at most 10^9
-abbrev pub passes : ℕ → Bool
-passes intake = leb intake 1_000_000_000
+abbrev pub intakeFits : ℕ → Bool
+intakeFits intake = leb intake 1_000_000_000
 
 -- an air, water, soil or dust intake over 10^9: 9
 unfoldable pub refusalOf : Intakes → ℕ
 refusalOf i =
-    unless (passes (i .air) && (passes (at (i .media) waterMedium) && (passes (at (i .media) soilMedium) && passes (at (i .media) dustMedium)))) 9
+    unless (intakeFits (i .air) && (intakeFits (at (i .media) waterMedium) && (intakeFits (at (i .media) soilMedium) && intakeFits (at (i .media) dustMedium)))) 9
 
 unfoldable pub intakeRefusal : Exposure → ℕ
 intakeRefusal e = refusalOf (intakesOf e)

@@ -1,10 +1,8 @@
--- Each compartment is at most the burden; and a fact about any of the six, from the fact about each.
+-- A fact about any of the six compartments, from the fact about each.
 -- Assumes nothing.
 use Prim.Native.Nat.{ℕ, zero, suc, _<_}
 use native.Mathlib.Omega.{arith}
-use Rattle.kinetics.specs.Step.{burden}
 
--- what holds at each of the six
 pub at-six : (P : ℕ → Type 0) → P 0 → P 1 → P 2 → P 3 → P 4 → P 5 → (i : ℕ) → i < 6 → P i
 at-six P a b c d e f zero l = a
 at-six P a b c d e f (suc zero) l = b

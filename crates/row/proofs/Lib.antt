@@ -1,2 +1,2 @@
+pub mod RowTests
 pub mod RowWithin
-pub mod Tests

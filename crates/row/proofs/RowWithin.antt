@@ -13,7 +13,7 @@ use Rattle.row.specs.declared.Row.{Row}
 use Rattle.row.specs.Row.{unit, out, back, exit, volumesFit, weightsFit, returnsFit, ratesFit, rowFits}
 use Rattle.row.specs.Limits.{RateLimits, RowLimits}
 use Rattle.row.specs.Laws.{RowWithin}
-use Rattle.row.proofs.Tests.{returnFits}
+use Rattle.row.proofs.RowTests.{returnFits}
 
 -- rates that pass are within their limits
 module _ (r : Rates) (fit : ratesFit r ≡ true) where

@@ -5,15 +5,15 @@ pub const PLASMA_VOLUME: usize = 1;
 
 pub const BODY_WEIGHT: usize = 2;
 
-pub const KIDNEY: usize = 3;
+pub const KIDNEY_WEIGHT: usize = 3;
 
-pub const LIVER: usize = 4;
+pub const LIVER_WEIGHT: usize = 4;
 
-pub const OTHER: usize = 5;
+pub const OTHER_WEIGHT: usize = 5;
 
-pub const TRABECULAR: usize = 6;
+pub const TRABECULAR_WEIGHT: usize = 6;
 
-pub const CORTICAL: usize = 7;
+pub const CORTICAL_WEIGHT: usize = 7;
 
 pub const OUT: usize = 8;
 

@@ -52,11 +52,11 @@ fn row_from(numbers: [u64; places::ROW_NUMBERS]) -> Row
         blood_volume: numbers[places::BLOOD_VOLUME],
         plasma_volume: numbers[places::PLASMA_VOLUME],
         body_weight: numbers[places::BODY_WEIGHT],
-        kidney: numbers[places::KIDNEY],
-        liver: numbers[places::LIVER],
-        other: numbers[places::OTHER],
-        trabecular: numbers[places::TRABECULAR],
-        cortical: numbers[places::CORTICAL],
+        kidney: numbers[places::KIDNEY_WEIGHT],
+        liver: numbers[places::LIVER_WEIGHT],
+        other: numbers[places::OTHER_WEIGHT],
+        trabecular: numbers[places::TRABECULAR_WEIGHT],
+        cortical: numbers[places::CORTICAL_WEIGHT],
         rates,
     }
 }

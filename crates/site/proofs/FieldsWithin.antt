@@ -12,15 +12,15 @@ use borrow.Author.Tests.{leb-true}
 use Rattle.numbers.specs.Choice.{every}
 use Rattle.numbers.proofs.Every.{and-left, and-right, every-at}
 use Rattle.numbers.proofs.Refusals.{firstOf-none, unless-none, answer-number, OfInput, unless-of-input, firstOf-of-input}
-use Rattle.block.proofs.Laws.{block-of-input}
+use Rattle.block.proofs.BlockRefusals.{block-of-input}
 use Rattle.block.proofs.Sealed.{accepted-check}
 use Rattle.site.specs.declared.Scenario.{Scenario}
 use Rattle.site.specs.declared.SiteRead.{SiteRead}
-use Rattle.site.specs.Fields.{fieldCount, singlesAt, at, limits, firstDrawShareIn, fountainShareIn, saturationIn, withinLimits, saturationFits, sharesFit, fieldsFit}
+use Rattle.site.specs.Fields.{fieldCount, singlesAt, motherAt, at, limits, firstDrawShareIn, fountainShareIn, saturationIn, withinLimits, saturationFits, sharesFit, fieldsFit}
 use Rattle.site.specs.Scenario.{scenarioOf}
 use Rattle.site.specs.Site.{siteForm, siteFields, siteRefusals, siteRefusal, readAs, refusedWith, readSite}
 use Rattle.site.specs.Laws.{MotherWithin, RightCheck}
-use Rattle.site.proofs.Tests.{fieldWithin}
+use Rattle.site.proofs.FieldTests.{fieldWithin}
 
 module _ (fields : List ℕ) (fit : fieldsFit fields ≡ true) where
   -- each field is at most its limit
@@ -72,7 +72,7 @@ module _ (site : List ℕ) (passed : siteRefusal site ≡ 0) where
 
 pub mother-accepted : MotherWithin
 unfolding limits
-mother-accepted site passed = field-le (readSite site .scenario .fields) (accepted-fit site passed) (singlesAt + 23) (omega arith)
+mother-accepted site passed = field-le (readSite site .scenario .fields) (accepted-fit site passed) (singlesAt + motherAt) (omega arith)
 
 pub right-check : RightCheck
 right-check site passed = accepted-check site siteForm (none site passed 1)

@@ -1,4 +1,4 @@
+pub mod FieldTests
 pub mod FieldsWithin
 pub mod ReadAnswers
 pub mod ReadBack
-pub mod Tests

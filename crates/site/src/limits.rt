@@ -13,7 +13,7 @@ const BREATHING_MOST: u32 = 100_000; // litres a day
 
 const PERCENT_MOST: u32 = 100; // % or hundredths
 
-const INTAKE_MOST: u32 = 1_000_000_000; // pg/day, of diet and alternate
+const DIET_MOST: u32 = 1_000_000_000; // pg/day, of diet and alternate
 
 const WATER_MOST: u32 = 10_000; // mL/day
 
@@ -53,7 +53,7 @@ fn group_limit(place: usize) -> u32
         return PERCENT_MOST;
     }
     if place < places::WATER {
-        return INTAKE_MOST;
+        return DIET_MOST;
     }
     if place < places::SOIL {
         return WATER_MOST;
@@ -64,7 +64,7 @@ fn group_limit(place: usize) -> u32
     if place < places::ALTERNATE {
         return EATEN_MOST;
     }
-    INTAKE_MOST
+    DIET_MOST
 }
 
 // The limit of a field that stands singly.

@@ -2,25 +2,24 @@
 -- Assumes nothing.
 use Prim.Native.Nat.{ℕ, _+_, _*_, _≤_, _<_}
 use mathlib.Core.Path.{_≡_}
-use mathlib.Core.Bool.{Bool, true, false, not}
-use mathlib.Core.List.{[], _∷_}
+use mathlib.Core.Bool.{true, not}
 use native.Mathlib.Omega.{arith}
 use borrow.Author.Tests.{leb-true, le-leb, eqb-false, ne-eqb, not-true}
 use lib.ListN.{getD}
 use lib.Dec.{leb, eqb}
-use Rattle.numbers.specs.Choice.{unless, firstOf}
+use Rattle.numbers.specs.Choice.{unless}
 use Rattle.numbers.proofs.Every.{and-true, and-left, and-right}
 use Rattle.numbers.proofs.Refusals.{firstOf-none, firstOf-not, unless-none, unless-not}
 use Rattle.row.specs.Row.{lastMonth}
 use Rattle.kinetics.specs.declared.State.{State}
 use Rattle.kinetics.specs.Step.{burden, burdenLimit}
-use Rattle.state.specs.State.{ledgerSum, monthLimit, isState, stateRefusals, stateRefusal}
+use Rattle.state.specs.State.{ledgerSum, monthUptakeLimit, isState, stateRefusals, stateRefusal}
 
 -- what 20 tests of a state
 pub record Sound (a : State) : Type 0 where
   pub month : a .month ≤ lastMonth
   pub held : burden (a .lead) ≤ burdenLimit
-  pub all : burden (a .lead) + ledgerSum a ≤ burdenLimit + a .month * monthLimit
+  pub all : burden (a .lead) + ledgerSum a ≤ burdenLimit + a .month * monthUptakeLimit
 
 pub sound-is-state : {a : State} → Sound a → isState a ≡ true
 unfolding isState

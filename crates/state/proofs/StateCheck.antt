@@ -13,12 +13,9 @@ use Rattle.kinetics.specs.declared.State.{State}
 use Rattle.kinetics.specs.Step.{burden, burdenLimit}
 use Rattle.row.specs.Row.{lastMonth}
 use Rattle.numbers.specs.Choice.{unless}
-use Rattle.state.specs.State.{ledgerSum, monthLimit, isState, stateRefusal}
+use Rattle.state.specs.State.{ledgerSum, monthUptakeLimit, isState, stateRefusal}
+use Rattle.state.specs.Internal.{cap}
 use Rattle.state.proofs.SoundState.{sound-is-state}
-
--- the cap of sums
-abbrev pub cap : ℕ
-cap = 0x4000_0000_0000_0000
 
 min-add : (a b x y z : ℕ) → x ≡ min a cap → y ≡ min b cap → z ≡ min (x + y) cap → z ≡ min (a + b) cap
 min-add a b x y z ex ey ez = omega arith
@@ -67,17 +64,17 @@ module _ (a : State) where
       burden-within : burden (a .lead) ≤ burdenLimit
       burden-within = capped-within (burden (a .lead)) eh within
 
-      pub refused-ledgers : burdenLimit + a .month * monthLimit < held + left → 20 ≡ stateRefusal a
+      pub refused-ledgers : burdenLimit + a .month * monthUptakeLimit < held + left → 20 ≡ stateRefusal a
       unfolding stateRefusal isState unless
       refused-ledgers h =
           rw (
             le-leb (a .month) lastMonth month,
             le-leb (burden (a .lead)) burdenLimit burden-within,
-            lt-leb (burden (a .lead) + ledgerSum a) (burdenLimit + a .month * monthLimit) (omega arith),
+            lt-leb (burden (a .lead) + ledgerSum a) (burdenLimit + a .month * monthUptakeLimit) (omega arith),
           )
 
-      module _ (all : held + left ≤ burdenLimit + a .month * monthLimit) where
-        account-within : burden (a .lead) + ledgerSum a ≤ burdenLimit + a .month * monthLimit
+      module _ (all : held + left ≤ burdenLimit + a .month * monthUptakeLimit) where
+        account-within : burden (a .lead) + ledgerSum a ≤ burdenLimit + a .month * monthUptakeLimit
         account-within = omega arith
 
         is-state : isState a ≡ true

@@ -14,14 +14,14 @@ abbrev pub ledgerSum : State → ℕ
 ledgerSum a = urineLedger a + faecesLedger a + skinLedger a
 
 -- the most that a month can bring: thirty days of 6 × 10^9
-abbrev pub monthLimit : ℕ
-monthLimit = 180_000_000_000
+abbrev pub monthUptakeLimit : ℕ
+monthUptakeLimit = 180_000_000_000
 
 -- a state: month at most 84, burden at most 5 × 10^10, burden plus ledgers at most 5 × 10^10 + month × 1.8 × 10^11
 unfoldable pub isState : State → Bool
 isState a =
     leb (a .month) lastMonth
-    && (leb (burden (a .lead)) burdenLimit && leb (burden (a .lead) + ledgerSum a) (burdenLimit + a .month * monthLimit))
+    && (leb (burden (a .lead)) burdenLimit && leb (burden (a .lead) + ledgerSum a) (burdenLimit + a .month * monthUptakeLimit))
 
 -- 20 no state, 21 month is 84
 abbrev pub stateRefusals : State → List ℕ

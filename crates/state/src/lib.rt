@@ -6,6 +6,7 @@ ghost use Prim.Native.Nat.{min};
 ghost use lib.ListN.{length, getD};
 ghost use Rattle.numbers.specs.Sums.{sumTo};
 ghost use Rattle.state.specs.State.{stateRefusal, zeroState};
+ghost use Rattle.state.specs.Internal.{cap};
 
 // No state, and a state after which there is no month.
 const NO_STATE: u32 = 20;
@@ -17,22 +18,23 @@ pub const BURDEN_TOO_LARGE: u32 = 22;
 
 pub const BURDEN_MOST: u64 = 50_000_000_000; // pg
 
-const MONTH_MOST: u64 = LAST_MONTH as u64;
+// The month of the last state.
+const LAST_STATE_MONTH: u64 = LAST_MONTH as u64;
 
-const UPTAKE_MOST: u64 = 180_000_000_000; // pg, that a month can bring
+const MONTH_UPTAKE_MOST: u64 = 180_000_000_000; // pg, that a month can bring
 
 // Sums stop here, far above every limit and far below what 64 bits hold.
 const CAP: u64 = 0x4000_0000_0000_0000;
 
 fn capped(x: u64) -> u64
-    ensures { λ r. ⌜ r ≡ min x 0x4000_0000_0000_0000 ⌝ }
+    ensures { λ r. ⌜ r ≡ min x cap ⌝ }
 {
     if x < CAP { x } else { CAP }
 }
 
 // The sum, or CAP if it is more.
 pub fn capped_sum(amounts: &[u64]) -> u64
-    ensures { λ r. ⌜ r ≡ min (sumTo (length (now (amounts .entry))) (λ i. getD (now (amounts .entry)) i 0)) 0x4000_0000_0000_0000 ⌝ }
+    ensures { λ r. ⌜ r ≡ min (sumTo (length (now (amounts .entry))) (λ i. getD (now (amounts .entry)) i 0)) cap ⌝ }
 {
     let mut sum: u64 = 0;
     let mut i: usize = 0;
@@ -50,7 +52,7 @@ pub fn state_refusal(state: State) -> u32
     ensures { λ r. ⌜ r ≡ stateRefusal state ⌝ }
 {
     let month = state.month;
-    if month > MONTH_MOST {
+    if month > LAST_STATE_MONTH {
         return NO_STATE;
     }
     let held = capped_sum(&state.lead);
@@ -58,10 +60,10 @@ pub fn state_refusal(state: State) -> u32
         return NO_STATE;
     }
     let left = capped_sum(&state.ledgers);
-    if held + left > BURDEN_MOST + month * UPTAKE_MOST {
+    if held + left > BURDEN_MOST + month * MONTH_UPTAKE_MOST {
         return NO_STATE;
     }
-    if month == MONTH_MOST {
+    if month == LAST_STATE_MONTH {
         return LAST_MONTH_DONE;
     }
     0

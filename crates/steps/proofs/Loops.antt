@@ -21,7 +21,7 @@ use Rattle.kinetics.specs.Internal.{DivisorsOf, Ready}
 use Rattle.steps.proofs.ShareSum.{share-law}
 use Rattle.margin.proofs.StepLaws.{step-law}
 use Rattle.steps.specs.declared.Reached.{Reached}
-use Rattle.state.specs.State.{ledgerSum, monthLimit}
+use Rattle.state.specs.State.{ledgerSum, monthUptakeLimit}
 use Rattle.steps.specs.Steps.{daysAMonth, sharesFrom, dayShares, daysShares, lastFrom, stepsRefusal}
 use Rattle.steps.specs.Internal.{Steppable, ReachedBy}
 use Rattle.steps.proofs.Shares.{sumOf, day-total, days-total}
@@ -176,7 +176,7 @@ module _ {rates : State → Rates} {a : State} {s t more : ℕ} (ready : Steppab
       day-next fits c e = rw e (turn-next rates (u ∷ []) _ share-ahead (step-taken rates b u (ready .limits b) (omega (arith, eh))) (omega arith) refl)
 
 -- a month of thirty such days
-module _ {rates : State → Rates} {a : State} {s t : ℕ} (ready : Steppable rates a s t monthLimit) where
+module _ {rates : State → Rates} {a : State} {s t : ℕ} (ready : Steppable rates a s t monthUptakeLimit) where
   pub month-start : Ahead rates a (daysShares s t daysAMonth) a (daysShares s t daysAMonth)
   month-start = ahead-start rates a (daysShares s t daysAMonth) (ready .held)
 

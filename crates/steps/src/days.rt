@@ -8,7 +8,7 @@ use state::BURDEN_MOST;
 use state::BURDEN_TOO_LARGE;
 ghost use Prim.Native.Nat.{_*_};
 ghost use Rattle.kinetics.specs.Internal.{DivisorsOf};
-ghost use Rattle.state.specs.State.{monthLimit};
+ghost use Rattle.state.specs.State.{monthUptakeLimit};
 ghost use Rattle.steps.specs.Steps.{daysAMonth, dayShares, daysShares};
 ghost use Rattle.steps.specs.Internal.{Steppable, ReachedBy};
 
@@ -41,7 +41,7 @@ fn day(rates: Rates, divisors: Divisors, state: State, s: u64, t: u64) -> Reache
 
 // Thirty days of s steps that absorb t each.
 pub fn days(rates: Rates, divisors: Divisors, state: State, s: u64, t: u64) -> Reached
-    requires { ⌜ (DivisorsOf rates divisors) × (Steppable (λ b. rates) state s t monthLimit) ⌝ }
+    requires { ⌜ (DivisorsOf rates divisors) × (Steppable (λ b. rates) state s t monthUptakeLimit) ⌝ }
     ensures { λ x. ⌜ ReachedBy (λ b. rates) state (daysShares s t daysAMonth) (daysAMonth * t) x ⌝ }
 {
     let mut here = state;

@@ -9,7 +9,8 @@ use denote.Ref.{now}
 use Rattle.blood.specs.Birth.{birthState}
 use Rattle.kinetics.specs.Step.{burden}
 use Rattle.child.specs.Birth.{newborn}
-use Rattle.state.proofs.StateCheck.{cap, capped-burden}
+use Rattle.state.specs.Internal.{cap}
+use Rattle.state.proofs.StateCheck.{capped-burden}
 use Rattle.child.proofs.BornAnswers.{born-refused, born-accepted}
 use Rattle.child.proofs.born.Statement.{statement}
 use Rattle.child.proofs.born.Tie as tie

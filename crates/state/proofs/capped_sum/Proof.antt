@@ -8,7 +8,8 @@ use lib.ListN.{length, getD}
 use borrow.Author.Needs.{needs}
 use denote.Ref.{now}
 use Rattle.numbers.specs.Sums.{sumTo}
-use Rattle.state.proofs.StateCheck.{cap, cap-next, cap-whole}
+use Rattle.state.specs.Internal.{cap}
+use Rattle.state.proofs.StateCheck.{cap-next, cap-whole}
 use Rattle.state.proofs.capped_sum.Statement.{statement}
 use Rattle.state.proofs.capped_sum.Tie as tie
 

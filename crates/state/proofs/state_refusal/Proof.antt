@@ -6,7 +6,8 @@ use lib.ListN.{length}
 use borrow.Author.Needs.{needs}
 use Rattle.kinetics.specs.Step.{burden}
 use Rattle.state.specs.State.{ledgerSum}
-use Rattle.state.proofs.StateCheck.{cap, capped-burden, capped-ledgers, refused-month, refused-burden, refused-ledgers, refused-last, not-refused}
+use Rattle.state.specs.Internal.{cap}
+use Rattle.state.proofs.StateCheck.{capped-burden, capped-ledgers, refused-month, refused-burden, refused-ledgers, refused-last, not-refused}
 use Rattle.state.proofs.state_refusal.Statement.{statement}
 use Rattle.state.proofs.state_refusal.Tie as tie
 

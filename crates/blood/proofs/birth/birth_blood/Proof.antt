@@ -3,7 +3,7 @@
 use mathlib.Core.Path.{refl}
 use Rattle.blood.specs.Birth.{birthBlood}
 use Rattle.numbers.proofs.Bounds.{is}
-use Rattle.blood.proofs.Newborn.{birthBlood-le}
+use Rattle.blood.proofs.BirthAmounts.{birthBlood-le}
 use borrow.Author.Needs.{needs}
 use Rattle.blood.proofs.birth.birth_blood.Statement.{statement}
 use Rattle.blood.proofs.birth.birth_blood.Tie as tie

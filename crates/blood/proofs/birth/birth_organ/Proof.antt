@@ -4,7 +4,7 @@ use mathlib.Core.Path.{refl}
 use native.Mathlib.Omega.{arith}
 use native.Mathlib.Nat.{mul-le-mul}
 use Rattle.blood.specs.Birth.{birthOrgan}
-use Rattle.blood.proofs.Newborn.{organ-product-le}
+use Rattle.blood.proofs.BirthAmounts.{organ-product-le}
 use Rattle.blood.proofs.birth.birth_organ.Statement.{statement}
 use Rattle.blood.proofs.birth.birth_organ.Tie as tie
 

@@ -1,7 +1,7 @@
 -- `blood::birth::birth_state` meets its contract: the products fit, and `birth-state-is` puts the state together.
 -- Assumes nothing.
 use native.Mathlib.Omega.{arith}
-use Rattle.blood.proofs.Newborn.{total-fits, plasma-fits, red-cell-rates-fit, plasma-le-total, birth-state-is}
+use Rattle.blood.proofs.BirthAmounts.{total-fits, plasma-fits, red-cell-rates-fit, plasma-le-total, birth-state-is}
 use borrow.Author.Needs.{needs}
 use Rattle.blood.proofs.birth.birth_state.Statement.{statement}
 use Rattle.blood.proofs.birth.birth_state.Tie as tie

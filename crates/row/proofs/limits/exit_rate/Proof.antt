@@ -2,7 +2,7 @@
 -- Assumes nothing.
 use native.Mathlib.Omega.{arith}
 use borrow.Author.Needs.{needs}
-use Rattle.row.proofs.Tests.{exit-none}
+use Rattle.row.proofs.RowTests.{exit-none}
 use Rattle.row.proofs.limits.exit_rate.Statement.{statement}
 use Rattle.row.proofs.limits.exit_rate.Tie as tie
 

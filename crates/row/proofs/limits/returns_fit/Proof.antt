@@ -8,7 +8,7 @@ use borrow.Author.Tests.{le-leb, lt-leb}
 use Rattle.numbers.specs.Choice.{every}
 use Rattle.numbers.proofs.Every.{every-next, every-stop, every-done}
 use Rattle.row.specs.Row.{unit, back, exit, returnsFit}
-use Rattle.row.proofs.Tests.{returnFits}
+use Rattle.row.proofs.RowTests.{returnFits}
 use Rattle.row.proofs.limits.returns_fit.Statement.{statement}
 use Rattle.row.proofs.limits.returns_fit.Tie as tie
 

@@ -8,7 +8,7 @@ use denote.Ref.{now}
 use Rattle.numbers.specs.Choice.{every}
 use Rattle.numbers.proofs.Every.{every-next, every-stop, every-done}
 use Rattle.row.specs.Row.{rowsABlock, rowFits, rowsFit}
-use Rattle.row.proofs.Tests.{monthFits, row-rates32}
+use Rattle.row.proofs.RowTests.{monthFits, row-rates32}
 use Rattle.row.proofs.limits.rows_fit.Statement.{statement}
 use Rattle.row.proofs.limits.rows_fit.Tie as tie
 

@@ -3,7 +3,7 @@
 use native.Mathlib.Omega.{arith}
 use borrow.Author.Needs.{needs}
 use Rattle.numbers.specs.Sums.{sumTo}
-use Rattle.row.proofs.Tests.{outs-small}
+use Rattle.row.proofs.RowTests.{outs-small}
 use Rattle.row.proofs.limits.total_out.Statement.{statement}
 use Rattle.row.proofs.limits.total_out.Tie as tie
 

@@ -2,7 +2,7 @@
 -- Assumes nothing.
 use borrow.Author.Tests.{le-leb, lt-leb}
 use Rattle.numbers.proofs.Every.{and-next, and-stop}
-use Rattle.row.proofs.Tests.{WeightsLeft, weights-left}
+use Rattle.row.proofs.RowTests.{WeightsLeft, weights-left}
 use Rattle.row.proofs.limits.weights_fit.Statement.{statement}
 use Rattle.row.proofs.limits.weights_fit.Tie as tie
 
