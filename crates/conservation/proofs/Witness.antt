@@ -37,7 +37,7 @@ use Rattle.exposure.specs.declared.Exposure.{Exposure}
 use Rattle.exposure.specs.Exposure.{exposureAt}
 use Rattle.intake.specs.Intake.{airIntake, waterIntake, soilIntake, dustConcentration, dustIntake, intakesOf, refusalOf, intakeRefusal}
 use Rattle.uptake.specs.Age.{ageOf}
-use Rattle.uptake.proofs.Laws.{age-law}
+use Rattle.uptake.proofs.UptakeBounds.{age-law}
 use Rattle.uptake.specs.Uptake.{percentOf, saturationOf, absorbable, absorbableTotal, passiveUptake, activePart, activeUptake, mediumUptake, airUptake, dayUptake}
 use Rattle.blood.specs.Birth.{birthBlood, birthTotal, birthPlasma, birthRedCells, birthOrgan, birthLead, birthState}
 use Rattle.state.specs.State.{isState, stateRefusal}
