@@ -1,10 +1,10 @@
 -- What a month of a child answers, by where its steps end, and what a birth answers.
 -- Assumes nothing.
-use mathlib.Core.Path.{_≡_, refl, sym, ap, _∙_}
+use mathlib.Core.Path.{_≡_, refl, sym, _∙_}
 use mathlib.Core.List.{List}
 use Prim.Native.Nat.{ℕ, _*_, _≤_}
 use native.Mathlib.Omega.{arith}
-use Rattle.numbers.specs.Choice.{orElse, answerBy}
+use Rattle.numbers.specs.Choice.{answerBy}
 use Rattle.numbers.proofs.Refusals.{orElse-first, orElse-last, answer-refused, answer-number}
 use Rattle.site.specs.declared.Scenario.{Scenario}
 use Rattle.row.specs.declared.Row.{Row}
@@ -17,9 +17,9 @@ use Rattle.child.specs.declared.BirthAnswer.{BirthAnswer}
 use Rattle.child.specs.declared.MonthAnswer.{MonthAnswer}
 use Rattle.steps.specs.declared.Reached.{Reached}
 use Rattle.state.specs.State.{monthLimit, stateRefusal}
-use Rattle.steps.specs.Steps.{stepsADay, daysAMonth, daysShares, stepsRefusal}
+use Rattle.steps.specs.Steps.{stepsADay, daysAMonth, daysShares}
 use Rattle.child.specs.Birth.{acceptedBirth, refusedBirth, birthAnswer}
-use Rattle.child.specs.Month.{monthAfter, exposureIn, monthUptake, monthRates, monthShares, refusedMonth, acceptedMonth, monthAnswer, childRefusal, monthLast}
+use Rattle.child.specs.Month.{monthAfter, exposureIn, monthUptake, monthShares, refusedMonth, acceptedMonth, childRefusal, monthLast}
 use Rattle.exposure.specs.declared.Exposure.{Exposure}
 use Rattle.uptake.specs.Uptake.{dayUptake}
 use Rattle.uptake.specs.Laws.{Weights}
@@ -96,7 +96,7 @@ module _ (s : ℕ) (a : State) (scenario : Scenario) (table : List ℕ) where
       → {row row24 : Row} → row ≡ rowOf table (monthAfter a) → row24 ≡ rowOf table 24 → {t : ℕ} → t ≡ dayUptake e (row .«body_weight») (row24 .«body_weight»)
       → steppedMonth s (λ b. row .rates) a row t ≡ monthFrom s a scenario table
   unfolding steppedMonth monthFrom monthLast monthShares
-  month-stepped z ee er e24 et = rw (z, et ∙ taken-uptake scenario table (monthAfter a) ee er e24, er)
+  month-stepped z ee er e24 et = rw (z, et ∙ taken-uptake scenario table (monthAfter a) ee er e24, er, orElse-last _)
 
   -- refusals 20 and 21, and what follows
   pub child-refused : (r : ℕ) → r ≡ stateRefusal a → (r ≡ 0 → ⊥) → refusedMonth r a ≡ childMonth s a scenario table
@@ -105,7 +105,4 @@ module _ (s : ℕ) (a : State) (scenario : Scenario) (table : List ℕ) where
 
   pub child-passed : stateRefusal a ≡ 0 → monthFrom s a scenario table ≡ childMonth s a scenario table
   unfolding monthFrom childMonth childRefusal
-  child-passed z =
-      rw z
-      (ap (λ (n : ℕ). monthAnswer (orElse (intakeRefusal (exposureIn scenario (monthAfter a))) n) a (monthLast s a scenario table) (rowOf table (monthAfter a)))
-      (sym (orElse-last (stepsRefusal (monthRates table (monthAfter a)) a (monthShares s scenario table (monthAfter a))))))
+  child-passed z = rw z
