@@ -1,16 +1,14 @@
 -- The loops over a day's steps and a month's days: what is ahead at the start, after a turn, and at the end.
 -- Assumes nothing.
 use mathlib.Core.Path.{_≡_, refl, sym, ap, _∙_}
-use mathlib.Core.Bool.{Bool, true, false}
 use mathlib.Core.List.{List, [], _∷_, _++_}
 use Prim.Native.Nat.{ℕ, suc, _+_, _-_, _*_, _≤_, _<_}
 use native.Mathlib.Nat.{sub-zero}
 use native.Mathlib.Omega.{arith}
 use borrow.Author.Tests.{le-leb, lt-leb}
-use lib.Dec.{leb}
 use Rattle.numbers.specs.Choice.{unless, orElse}
 use Rattle.numbers.proofs.Lists.{total-append}
-use Rattle.numbers.proofs.Refusals.{orElse-first, orElse-assoc}
+use Rattle.numbers.proofs.Refusals.{orElse-first, orElse-not, orElse-assoc, unless-not}
 use Rattle.row.specs.declared.Rates.{Rates}
 use Rattle.row.specs.Limits.{RateLimits}
 use Rattle.kinetics.specs.declared.State.{State}
@@ -21,7 +19,7 @@ use Rattle.kinetics.specs.Internal.{DivisorsOf, Ready}
 use Rattle.steps.proofs.ShareSum.{share-law}
 use Rattle.margin.proofs.StepLaws.{step-law}
 use Rattle.steps.specs.declared.Reached.{Reached}
-use Rattle.state.specs.State.{ledgerSum, monthLimit}
+use Rattle.state.specs.State.{ledgerSum, monthLimit, burdenRefusal}
 use Rattle.steps.specs.Steps.{daysAMonth, sharesFrom, dayShares, daysShares, lastFrom, stepsRefusal}
 use Rattle.steps.specs.Internal.{Steppable, ReachedBy}
 use Rattle.steps.proofs.Shares.{sumOf, day-total, days-total}
@@ -46,19 +44,16 @@ module _ (rates : State → Rates) where
   unfolding stepsRefusal lastFrom
   refusal-append a [] vs = refl
   refusal-append a (u ∷ us) vs =
-      let over = unless (leb (burden (a .lead) + u) burdenLimit) 22 in
+      let over = burdenRefusal (burden (a .lead) + u) in
       ap (orElse over) (refusal-append (next (rates a) a u) us vs) ∙ orElse-assoc over (stepsRefusal rates (next (rates a) a u) us) _
 
   -- the only refusal of steps is 22
   pub steps-not : (n : ℕ) → 0 < n → (n ≡ 22 → ⊥) → (a : State) (us : List ℕ) → stepsRefusal rates a us ≡ n → ⊥
-  unfolding stepsRefusal unless
+  unfolding stepsRefusal
   steps-not n some h a [] e = omega arith
   steps-not n some h a (u ∷ us) e =
-      one (leb (burden (a .lead) + u) burdenLimit) (steps-not n some h (next (rates a) a u) us) e
-    where
-      one : (t : Bool) {rest : ℕ} → (rest ≡ n → ⊥) → orElse (unless t 22) rest ≡ n → ⊥
-      one true k f = k f
-      one false k f = h (sym f)
+      let rest = stepsRefusal rates (next (rates a) a u) us in
+      orElse-not n (burdenRefusal (burden (a .lead) + u)) rest (unless-not _ 22 n some (λ z. h (sym z))) (steps-not n some h (next (rates a) a u) us) e
 
   last-append : (a : State) (us vs : List ℕ) → lastFrom rates a (us ++ vs) ≡ lastFrom rates (lastFrom rates a us) vs
   unfolding lastFrom
