@@ -19,7 +19,7 @@ use Rattle.steps.specs.declared.Reached.{Reached}
 use Rattle.state.specs.State.{monthLimit, stateRefusal}
 use Rattle.steps.specs.Steps.{stepsADay, daysAMonth, daysShares}
 use Rattle.child.specs.Birth.{acceptedBirth, refusedBirth, birthAnswer}
-use Rattle.child.specs.Month.{monthAfter, exposureIn, monthUptake, monthShares, refusedMonth, acceptedMonth, childRefusal, monthLast}
+use Rattle.child.specs.Month.{monthAfter, exposureIn, saturationMonth, monthUptake, monthShares, refusedMonth, acceptedMonth, childRefusal, monthLast}
 use Rattle.exposure.specs.declared.Exposure.{Exposure}
 use Rattle.uptake.specs.Uptake.{dayUptake}
 use Rattle.uptake.specs.Laws.{Weights}
@@ -59,20 +59,20 @@ month-steppable a passed limits daily =
     }
 
 -- the body weights that the code reads are within their limits
-pub weights-within : {scenario : Scenario} {table : List ℕ} (d : Decoded scenario table) {m : ℕ} → m ≤ lastMonth → {row row24 : Row} → row ≡ rowOf table m → row24 ≡ rowOf table 24
+pub weights-within : {scenario : Scenario} {table : List ℕ} (d : Decoded scenario table) {m : ℕ} → m ≤ lastMonth → {row row24 : Row} → row ≡ rowOf table m → row24 ≡ rowOf table saturationMonth
     → Weights (row .«body_weight») (row24 .«body_weight»)
 weights-within d {m} h er e24 =
     rw (er, e24)
     (record {
       least = d .row m h .body-least;
       most = d .row m h .body-most;
-      least24 = d .row 24 (omega arith) .body-least;
-      most24 = d .row 24 (omega arith) .body-most;
+      least24 = d .row saturationMonth (omega arith) .body-least;
+      most24 = d .row saturationMonth (omega arith) .body-most;
     })
 
 -- T by what the code reads
 taken-uptake : (scenario : Scenario) (table : List ℕ) (m : ℕ) {e : Exposure} → e ≡ exposureIn scenario m → {row row24 : Row} → row ≡ rowOf table m
-    → row24 ≡ rowOf table 24 → dayUptake e (row .«body_weight») (row24 .«body_weight») ≡ monthUptake scenario table m
+    → row24 ≡ rowOf table saturationMonth → dayUptake e (row .«body_weight») (row24 .«body_weight») ≡ monthUptake scenario table m
 unfolding monthUptake
 taken-uptake scenario table m ee er e24 = rw (ee, er, e24)
 
@@ -93,7 +93,7 @@ module _ (s : ℕ) (a : State) (scenario : Scenario) (table : List ℕ) where
   month-intake-refused r e h = rw (← e, orElse-first r _ h) (refused-answer r a _ h)
 
   pub month-stepped : intakeRefusal (exposureIn scenario (monthAfter a)) ≡ 0 → {e : Exposure} → e ≡ exposureIn scenario (monthAfter a)
-      → {row row24 : Row} → row ≡ rowOf table (monthAfter a) → row24 ≡ rowOf table 24 → {t : ℕ} → t ≡ dayUptake e (row .«body_weight») (row24 .«body_weight»)
+      → {row row24 : Row} → row ≡ rowOf table (monthAfter a) → row24 ≡ rowOf table saturationMonth → {t : ℕ} → t ≡ dayUptake e (row .«body_weight») (row24 .«body_weight»)
       → steppedMonth s (λ b. row .rates) a row t ≡ monthFrom s a scenario table
   unfolding steppedMonth monthFrom monthLast monthShares
   month-stepped z ee er e24 et = rw (z, et ∙ taken-uptake scenario table (monthAfter a) ee er e24, er, orElse-last _)

@@ -26,9 +26,13 @@ monthAfter a = a .month + 1
 abbrev pub exposureIn : Scenario → ℕ → Exposure
 exposureIn scenario m = exposureAt scenario (ageOf m)
 
--- T of month m: by the exposure of its age, and the body weights of row m and row 24
+-- the month whose body weight the saturation belongs to
+abbrev pub saturationMonth : ℕ
+saturationMonth = 24
+
+-- T of month m: by the exposure of its age, and the body weights of its row and of the saturation's
 unfoldable pub monthUptake : Scenario → List ℕ → ℕ → ℕ
-monthUptake scenario table m = dayUptake (exposureIn scenario m) (rowOf table m .«body_weight») (rowOf table 24 .«body_weight»)
+monthUptake scenario table m = dayUptake (exposureIn scenario m) (rowOf table m .«body_weight») (rowOf table saturationMonth .«body_weight»)
 
 -- the rates of month m are those of its row, whatever the state
 abbrev pub monthRates : List ℕ → ℕ → State → Rates
