@@ -13,7 +13,7 @@ use Rattle.engine.proofs.run.Tie as tie
 abbrev files : tie.Start → Files
 files begin = filesOf (now (begin .args .site)) (now (begin .args .book))
 
--- the beginning, from where the run is started
+-- the run's beginning, by what is known after `start` has answered
 abbrev begin-of : tie.After-start → tie.Start
 begin-of c = c .before .before .before .before .before
 
