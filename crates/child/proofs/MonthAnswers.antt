@@ -87,6 +87,15 @@ module _ (s : ℕ) (rates : State → Rates) (a : State) (row : Row) (t : ℕ) (
   stepped-accepted z = rw (sym (r .refused) ∙ z, ← r .reached z)
 
 module _ (s : ℕ) (a : State) (scenario : Scenario) (table : List ℕ) where
+  -- refusals 20 and 21, and what follows
+  pub child-refused : (r : ℕ) → r ≡ stateRefusal a → (r ≡ 0 → ⊥) → refusedMonth r a ≡ childMonth s a scenario table
+  unfolding childMonth childRefusal
+  child-refused r e h = rw (← e, orElse-first r _ h) (refused-answer r a _ h)
+
+  pub child-passed : stateRefusal a ≡ 0 → monthFrom s a scenario table ≡ childMonth s a scenario table
+  unfolding monthFrom childMonth childRefusal
+  child-passed z = rw z
+
   -- refusal 9, and the steps
   pub month-intake-refused : (r : ℕ) → r ≡ intakeRefusal (exposureIn scenario (monthAfter a)) → (r ≡ 0 → ⊥) → refusedMonth r a ≡ monthFrom s a scenario table
   unfolding monthFrom
@@ -97,12 +106,3 @@ module _ (s : ℕ) (a : State) (scenario : Scenario) (table : List ℕ) where
       → steppedMonth s (λ b. row .rates) a row t ≡ monthFrom s a scenario table
   unfolding steppedMonth monthFrom monthLast monthShares
   month-stepped z ee er e24 et = rw (z, et ∙ taken-uptake scenario table (monthAfter a) ee er e24, er, orElse-last _)
-
-  -- refusals 20 and 21, and what follows
-  pub child-refused : (r : ℕ) → r ≡ stateRefusal a → (r ≡ 0 → ⊥) → refusedMonth r a ≡ childMonth s a scenario table
-  unfolding childMonth childRefusal
-  child-refused r e h = rw (← e, orElse-first r _ h) (refused-answer r a _ h)
-
-  pub child-passed : stateRefusal a ≡ 0 → monthFrom s a scenario table ≡ childMonth s a scenario table
-  unfolding monthFrom childMonth childRefusal
-  child-passed z = rw z
