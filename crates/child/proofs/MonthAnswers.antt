@@ -1,10 +1,10 @@
 -- What a month of a child answers, by where its steps end, and what a birth answers.
 -- Assumes nothing.
-use mathlib.Core.Path.{_≡_, refl, sym, ap, _∙_}
+use mathlib.Core.Path.{_≡_, refl, sym, _∙_}
 use mathlib.Core.List.{List}
 use Prim.Native.Nat.{ℕ, _*_, _≤_}
 use native.Mathlib.Omega.{arith}
-use Rattle.numbers.specs.Choice.{orElse, answerBy}
+use Rattle.numbers.specs.Choice.{answerBy}
 use Rattle.numbers.proofs.Refusals.{orElse-first, orElse-last, answer-refused, answer-number}
 use Rattle.site.specs.declared.Scenario.{Scenario}
 use Rattle.row.specs.declared.Row.{Row}
@@ -17,9 +17,9 @@ use Rattle.child.specs.declared.BirthAnswer.{BirthAnswer}
 use Rattle.child.specs.declared.MonthAnswer.{MonthAnswer}
 use Rattle.steps.specs.declared.Reached.{Reached}
 use Rattle.state.specs.State.{monthUptakeLimit, stateRefusal}
-use Rattle.steps.specs.Steps.{stepsADay, daysAMonth, daysShares, stepsRefusal}
+use Rattle.steps.specs.Steps.{stepsADay, daysAMonth, daysShares}
 use Rattle.child.specs.Birth.{acceptedBirth, refusedBirth, birthAnswer}
-use Rattle.child.specs.Month.{monthAfter, exposureIn, monthUptake, monthRates, monthShares, refusedMonth, acceptedMonth, monthAnswer, childRefusal, monthLast}
+use Rattle.child.specs.Month.{monthAfter, exposureIn, saturationMonth, monthUptake, monthShares, refusedMonth, acceptedMonth, childRefusal, monthLast}
 use Rattle.exposure.specs.declared.Exposure.{Exposure}
 use Rattle.uptake.specs.Uptake.{dayUptake}
 use Rattle.uptake.specs.Laws.{Weights, dayLimit}
@@ -59,20 +59,20 @@ month-steppable a passed limits daily =
     }
 
 -- the body weights that the code reads are within their limits
-pub weights-within : {scenario : Scenario} {table : List ℕ} (d : Decoded scenario table) {m : ℕ} → m ≤ lastMonth → {row row24 : Row} → row ≡ rowOf table m → row24 ≡ rowOf table 24
+pub weights-within : {scenario : Scenario} {table : List ℕ} (d : Decoded scenario table) {m : ℕ} → m ≤ lastMonth → {row row24 : Row} → row ≡ rowOf table m → row24 ≡ rowOf table saturationMonth
     → Weights (row .«body_weight») (row24 .«body_weight»)
 weights-within d {m} h er e24 =
     rw (er, e24)
     (record {
       least = d .row m h .body-least;
       most = d .row m h .body-most;
-      least24 = d .row 24 (omega arith) .body-least;
-      most24 = d .row 24 (omega arith) .body-most;
+      least24 = d .row saturationMonth (omega arith) .body-least;
+      most24 = d .row saturationMonth (omega arith) .body-most;
     })
 
 -- T by what the code reads
 taken-uptake : (scenario : Scenario) (table : List ℕ) (m : ℕ) {e : Exposure} → e ≡ exposureIn scenario m → {row row24 : Row} → row ≡ rowOf table m
-    → row24 ≡ rowOf table 24 → dayUptake e (row .«body_weight») (row24 .«body_weight») ≡ monthUptake scenario table m
+    → row24 ≡ rowOf table saturationMonth → dayUptake e (row .«body_weight») (row24 .«body_weight») ≡ monthUptake scenario table m
 unfolding monthUptake
 taken-uptake scenario table m ee er e24 = rw (ee, er, e24)
 
@@ -87,17 +87,6 @@ module _ (s : ℕ) (rates : State → Rates) (a : State) (row : Row) (t : ℕ) (
   stepped-accepted z = rw (sym (r .refused) ∙ z, ← r .reached z)
 
 module _ (s : ℕ) (a : State) (scenario : Scenario) (table : List ℕ) where
-  -- refusal 9, and the steps
-  pub month-intake-refused : (r : ℕ) → r ≡ intakeRefusal (exposureIn scenario (monthAfter a)) → (r ≡ 0 → ⊥) → refusedMonth r a ≡ monthFrom s a scenario table
-  unfolding monthFrom
-  month-intake-refused r e h = rw (← e, orElse-first r _ h) (refused-answer r a _ h)
-
-  pub month-stepped : intakeRefusal (exposureIn scenario (monthAfter a)) ≡ 0 → {e : Exposure} → e ≡ exposureIn scenario (monthAfter a)
-      → {row row24 : Row} → row ≡ rowOf table (monthAfter a) → row24 ≡ rowOf table 24 → {t : ℕ} → t ≡ dayUptake e (row .«body_weight») (row24 .«body_weight»)
-      → steppedMonth s (λ b. row .rates) a row t ≡ monthFrom s a scenario table
-  unfolding steppedMonth monthFrom monthLast monthShares
-  month-stepped z ee er e24 et = rw (z, et ∙ taken-uptake scenario table (monthAfter a) ee er e24, er)
-
   -- refusals 20 and 21, and what follows
   pub child-refused : (r : ℕ) → r ≡ stateRefusal a → (r ≡ 0 → ⊥) → refusedMonth r a ≡ childMonth s a scenario table
   unfolding childMonth childRefusal
@@ -105,7 +94,15 @@ module _ (s : ℕ) (a : State) (scenario : Scenario) (table : List ℕ) where
 
   pub child-passed : stateRefusal a ≡ 0 → monthFrom s a scenario table ≡ childMonth s a scenario table
   unfolding monthFrom childMonth childRefusal
-  child-passed z =
-      rw z
-      (ap (λ (n : ℕ). monthAnswer (orElse (intakeRefusal (exposureIn scenario (monthAfter a))) n) a (monthLast s a scenario table) (rowOf table (monthAfter a)))
-      (sym (orElse-last (stepsRefusal (monthRates table (monthAfter a)) a (monthShares s scenario table (monthAfter a))))))
+  child-passed z = rw z
+
+  -- refusal 9, and the steps
+  pub month-intake-refused : (r : ℕ) → r ≡ intakeRefusal (exposureIn scenario (monthAfter a)) → (r ≡ 0 → ⊥) → refusedMonth r a ≡ monthFrom s a scenario table
+  unfolding monthFrom
+  month-intake-refused r e h = rw (← e, orElse-first r _ h) (refused-answer r a _ h)
+
+  pub month-stepped : intakeRefusal (exposureIn scenario (monthAfter a)) ≡ 0 → {e : Exposure} → e ≡ exposureIn scenario (monthAfter a)
+      → {row row24 : Row} → row ≡ rowOf table (monthAfter a) → row24 ≡ rowOf table saturationMonth → {t : ℕ} → t ≡ dayUptake e (row .«body_weight») (row24 .«body_weight»)
+      → steppedMonth s (λ b. row .rates) a row t ≡ monthFrom s a scenario table
+  unfolding steppedMonth monthFrom monthLast monthShares
+  month-stepped z ee er e24 et = rw (z, et ∙ taken-uptake scenario table (monthAfter a) ee er e24, er, orElse-last _)

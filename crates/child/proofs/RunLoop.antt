@@ -7,7 +7,6 @@ use native.Mathlib.Omega.{arith}
 use native.Mathlib.Numerals.{add-one}
 use lib.ListN.{length, take, drop, set, length-set, take-append-drop}
 use lib.Seq.{length-take-le, take-suc-set, drop-set-lt, drop-drop}
-use Rattle.numbers.specs.Choice.{answerBy}
 use Rattle.numbers.proofs.Refusals.{answer-refused}
 use Rattle.site.specs.declared.Scenario.{Scenario}
 use Rattle.row.specs.Row.{lastMonth}
@@ -15,20 +14,21 @@ use Rattle.kinetics.specs.declared.State.{State}
 use Rattle.child.specs.declared.MonthAnswer.{MonthAnswer}
 use Rattle.child.specs.declared.RunAnswer.{RunAnswer}
 use Rattle.child.specs.Month.{childRefusal}
-use Rattle.child.specs.Months.{MonthsRun, noMonth, monthThen, monthsBy, runAnswer, runList}
+use Rattle.child.specs.Months.{MonthsRun, noMonth, monthThen, andThen, monthsBy, runAnswer, runList}
 use Rattle.child.specs.Internal.{childMonth}
 use Rattle.child.proofs.MonthAnswers.{refused-answer, answer-refusal}
 
--- the figures bs, and then the run r; and a run that ends with the refusal r, the figures bs and the state b
+-- the figures bs, and then the run r
 abbrev prefixed : List ℕ → MonthsRun → MonthsRun
 prefixed bs r = record { refusal = r .refusal; figures = bs ++ r .figures; state = r .state }
 
-abbrev ended : ℕ → List ℕ → State → MonthsRun
-ended r bs b = record { refusal = r; figures = bs; state = b }
+-- a run that begins with the month m, by whether m is refused
+module _ (m : MonthAnswer) (rest : MonthsRun) where
+  then-refused : (m .refusal ≡ 0 → ⊥) → andThen m rest ≡ noMonth (m .refusal) (m .state)
+  then-refused = answer-refused _ _ (m .refusal)
 
--- a month's answer m, and then the months x
-abbrev andThen : MonthAnswer → MonthsRun → MonthsRun
-andThen m x = answerBy (m .refusal) (monthThen m x) (λ n. noMonth n (m .state))
+  then-accepted : m .refusal ≡ 0 → andThen m rest ≡ monthThen m rest
+  then-accepted z = rw z
 
 -- x and l are what a run of months answers and what it leaves in the list l₀
 abbrev pub Done : MonthsRun → List ℕ → RunAnswer → List ℕ → Type 0
@@ -48,11 +48,10 @@ module _ {call : State → MonthAnswer} {a b : State} {l₀ l : List ℕ} {i : �
   written-length : length (take i l) ≡ i
   written-length = length-take-le i l (omega (arith, inv .reach, inv .long))
 
-  ends : (r : ℕ) → monthsBy call (lastMonth - i) b ≡ ended r [] b → Done (monthsBy call lastMonth a) l₀ (record { refusal = r; months = i; state = b }) l
+  ends : (r : ℕ) → monthsBy call (lastMonth - i) b ≡ noMonth r b → Done (monthsBy call lastMonth a) l₀ (record { refusal = r; months = i; state = b }) l
   ends r e =
-      let w : monthsBy call lastMonth a ≡ ended r (take i l) b =
-      inv .same ∙ ap (prefixed (take i l)) e ∙ ap (λ (bs : List ℕ). ended r bs b) (append-nil (take i l)) in
-      (rw (w, written-length), rw (w, written-length, ← inv .rest) (sym (take-append-drop i l)))
+      let w : monthsBy call lastMonth a ≡ prefixed (take i l) (noMonth r b) = inv .same ∙ ap (prefixed (take i l)) e in
+      (rw (w, append-nil (take i l), written-length), rw (w, append-nil (take i l), written-length, ← inv .rest) (sym (take-append-drop i l)))
 
   pub run-end : lastMonth ≤ i → Done (monthsBy call lastMonth a) l₀ (record { refusal = 0; months = i; state = b }) l
   unfolding monthsBy
@@ -75,7 +74,7 @@ module _ {call : State → MonthAnswer} {a b : State} {l₀ l : List ℕ} {i : �
         → Done (monthsBy call lastMonth a) l₀ (record { refusal = m .refusal; months = i; state = b }) l
     run-stop kept z =
         let same : m .state ≡ b = rw em (kept b (rw em at z)) in
-        ends (m .refusal) (month-ahead ∙ answer-refused (monthThen m later) (λ n. noMonth n (m .state)) (m .refusal) z ∙ ap (ended (m .refusal) []) same)
+        ends (m .refusal) (month-ahead ∙ then-refused m later z ∙ ap (noMonth (m .refusal)) same)
 
     pub run-next : m .refusal ≡ 0 → InRun call a l₀ (set l i (m .blood)) (m .state) (i + 1)
     unfolding later
@@ -86,7 +85,7 @@ module _ {call : State → MonthAnswer} {a b : State} {l₀ l : List ℕ} {i : �
         record {
           reach = omega arith;
           long = length-set l i v ∙ inv .long;
-          same = rw (written, append-assoc) (inv .same ∙ ap (prefixed (take i l)) (month-ahead ∙ ap (λ (n : ℕ). answerBy n (monthThen m later) (λ k. noMonth k (m .state))) z));
+          same = rw (written, append-assoc) (inv .same ∙ ap (prefixed (take i l)) (month-ahead ∙ then-accepted m later z));
           rest = drop-set-lt (i + 1) l i v (omega arith) ∙ kept;
         }
 

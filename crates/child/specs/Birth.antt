@@ -2,16 +2,15 @@
 -- Assumes nothing.
 use Prim.Native.Nat.{ℕ}
 use mathlib.Core.List.{List}
-use lib.Dec.{leb}
-use Rattle.numbers.specs.Choice.{unless, answerBy}
+use Rattle.numbers.specs.Choice.{answerBy}
 use Rattle.site.specs.declared.Scenario.{Scenario}
 use Rattle.site.specs.Scenario.{motherOf}
 use Rattle.row.specs.Row.{rowOf}
 use Rattle.kinetics.specs.declared.State.{State}
 use Rattle.blood.specs.Birth.{birthState}
-use Rattle.kinetics.specs.Step.{burden, burdenLimit}
+use Rattle.kinetics.specs.Step.{burden}
 use Rattle.child.specs.declared.BirthAnswer.{BirthAnswer}
-use Rattle.state.specs.State.{zeroState}
+use Rattle.state.specs.State.{burdenRefusal, zeroState}
 
 -- the child that a scenario and a book's table give birth to
 unfoldable pub newborn : Scenario → List ℕ → State
@@ -19,7 +18,7 @@ newborn scenario table = birthState (rowOf table 0) (motherOf scenario)
 
 -- 22: its burden over 5 × 10^10
 unfoldable pub newbornRefusal : Scenario → List ℕ → ℕ
-newbornRefusal scenario table = unless (leb (burden (newborn scenario table .lead)) burdenLimit) 22
+newbornRefusal scenario table = burdenRefusal (burden (newborn scenario table .lead))
 
 -- an accepted birth answers the child, a refused one the all-zero state
 abbrev pub acceptedBirth : State → BirthAnswer

@@ -2,6 +2,7 @@
 -- Assumes nothing.
 use Prim.Native.Nat.{ℕ, _≤_}
 use mathlib.Core.List.{List}
+use lib.ListN.{drop}
 use Rattle.site.specs.declared.Scenario.{Scenario}
 use Rattle.exposure.specs.Exposure.{exposureAt}
 use Rattle.site.specs.Fields.{lastAge}
@@ -11,13 +12,12 @@ use Rattle.row.specs.declared.Rates.{Rates}
 use Rattle.row.specs.Row.{lastMonth, rowOf}
 use Rattle.row.specs.Limits.{RowLimits}
 use Rattle.kinetics.specs.declared.State.{State}
-use Rattle.numbers.specs.Choice.{orElse}
+use Rattle.numbers.specs.Choice.{firstOf}
 use Rattle.row.specs.declared.Row.{Row}
-use Rattle.intake.specs.Intake.{intakeRefusal}
 use Rattle.child.specs.declared.MonthAnswer.{MonthAnswer}
 use Rattle.steps.specs.Steps.{daysAMonth, daysShares, lastFrom, stepsRefusal}
 use Rattle.child.specs.Months.{MonthsRun, monthsBy}
-use Rattle.child.specs.Month.{monthAfter, exposureIn, monthRates, monthShares, monthAnswer, childRefusal, monthLast}
+use Rattle.child.specs.Month.{monthAfter, monthAnswer, childRefusals, childRefusal, monthLast}
 
 -- a scenario and a table that accepted files give
 pub record Decoded (scenario : Scenario) (table : List ℕ) : Type 0 where
@@ -25,17 +25,14 @@ pub record Decoded (scenario : Scenario) (table : List ℕ) : Type 0 where
   pub mother : motherOf scenario ≤ 100_000
   pub row : (month : ℕ) → month ≤ lastMonth → RowLimits (rowOf table month)
 
--- a month by its parts: its steps, given its rates, its row and T; after the state's refusals; and with them
+-- a month by its parts: its steps, given its rates, its row and T; after the state's refusals, the first of the list; and with them
 unfoldable pub steppedMonth : ℕ → (State → Rates) → State → Row → ℕ → MonthAnswer
 steppedMonth s rates a row t = monthAnswer (stepsRefusal rates a (daysShares s t daysAMonth)) a (lastFrom rates a (daysShares s t daysAMonth)) row
 
 module _ (s : ℕ) (a : State) (scenario : Scenario) (table : List ℕ) where
   unfoldable pub monthFrom : MonthAnswer
   monthFrom =
-      monthAnswer
-      (orElse (intakeRefusal (exposureIn scenario (monthAfter a)))
-      (stepsRefusal (monthRates table (monthAfter a)) a (monthShares s scenario table (monthAfter a))))
-      a (monthLast s a scenario table) (rowOf table (monthAfter a))
+      monthAnswer (firstOf (drop 1 (childRefusals s a scenario table))) a (monthLast s a scenario table) (rowOf table (monthAfter a))
 
   unfoldable pub childMonth : MonthAnswer
   childMonth = monthAnswer (childRefusal s a scenario table) a (monthLast s a scenario table) (rowOf table (monthAfter a))

@@ -26,9 +26,13 @@ monthAfter a = a .month + 1
 abbrev pub exposureIn : Scenario → ℕ → Exposure
 exposureIn scenario m = exposureAt scenario (ageOf m)
 
--- T of month m: by the exposure of its age, and the body weights of row m and row 24
+-- the month whose body weight the saturation belongs to
+abbrev pub saturationMonth : ℕ
+saturationMonth = 24
+
+-- T of month m: by the exposure of its age, and the body weights of its row and of the saturation's
 unfoldable pub monthUptake : Scenario → List ℕ → ℕ → ℕ
-monthUptake scenario table m = dayUptake (exposureIn scenario m) (rowOf table m .«body_weight») (rowOf table 24 .«body_weight»)
+monthUptake scenario table m = dayUptake (exposureIn scenario m) (rowOf table m .«body_weight») (rowOf table saturationMonth .«body_weight»)
 
 -- the rates of month m are those of its row, whatever the state
 abbrev pub monthRates : List ℕ → ℕ → State → Rates
@@ -38,17 +42,16 @@ monthRates table m a = rowOf table m .rates
 unfoldable pub monthShares : ℕ → Scenario → List ℕ → ℕ → List ℕ
 monthShares s scenario table m = daysShares s (monthUptake scenario table m) daysAMonth
 
--- a refused month returns the state it was given, and blood 0; an accepted one the state its steps left, with the month's number
+-- the end of a month from a: the state that its steps left, with the month's number
+abbrev pub monthEnd : State → State → State
+monthEnd a last = record { month = monthAfter a; lead = last .lead; ledgers = last .ledgers }
+
+-- a refused month returns the state it was given, and blood 0; an accepted one its end
 abbrev pub refusedMonth : ℕ → State → MonthAnswer
 refusedMonth r a = record { refusal = r; state = a; blood = 0 }
 
 abbrev pub acceptedMonth : State → State → Row → MonthAnswer
-acceptedMonth a last row =
-    record {
-      refusal = 0;
-      state = record { month = monthAfter a; lead = last .lead; ledgers = last .ledgers };
-      blood = bloodOf row (last .lead);
-    }
+acceptedMonth a last row = record { refusal = 0; state = monthEnd a last; blood = bloodOf row (last .lead) }
 
 abbrev pub monthAnswer : ℕ → State → State → Row → MonthAnswer
 monthAnswer r a last row = answerBy r (acceptedMonth a last row) (λ n. refusedMonth n a)

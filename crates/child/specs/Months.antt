@@ -22,12 +22,14 @@ noMonth r a = record { refusal = r; figures = []; state = a }
 abbrev pub monthThen : MonthAnswer → MonthsRun → MonthsRun
 monthThen m rest = record { refusal = rest .refusal; figures = m .blood ∷ rest .figures; state = rest .state }
 
+-- what a run answers that begins with the month m: m and then the rest if m is accepted, else m's refusal and no month
+abbrev pub andThen : MonthAnswer → MonthsRun → MonthsRun
+andThen m rest = answerBy (m .refusal) (monthThen m rest) (λ r. noMonth r (m .state))
+
 -- n months from the state a, each made by the call from what the one before answered; the first refusal ends them
 unfoldable pub monthsBy : (State → MonthAnswer) → ℕ → State → MonthsRun
 monthsBy call zero a = noMonth 0 a
-monthsBy call (suc n) a =
-    let m = call a in
-    answerBy (m .refusal) (monthThen m (monthsBy call n (m .state))) (λ r. noMonth r (m .state))
+monthsBy call (suc n) a = andThen (call a) (monthsBy call n (call a .state))
 
 -- what a run answers: the months done are as many as the figures written
 abbrev pub runAnswer : MonthsRun → RunAnswer

@@ -8,7 +8,7 @@ use lib.ListN.{length, getD, replicate}
 use Rattle.numbers.proofs.Refusals.{firstOf-none}
 use Rattle.kinetics.specs.declared.State.{State}
 use Rattle.child.specs.declared.MonthAnswer.{MonthAnswer}
-use Rattle.child.specs.Months.{MonthsRun, monthsBy}
+use Rattle.child.specs.Months.{MonthsRun, noMonth, monthThen, monthsBy}
 use Rattle.files.specs.Files.{Files}
 use Rattle.row.specs.Row.{lastMonth}
 use Rattle.engine.specs.Birth.{birthRefusal, birthOf}
@@ -40,13 +40,11 @@ module _ (steps : Files → ℕ) (pos : (f : Files) → 0 < steps f) (f : Files)
     abbrev answer : MonthAnswer
     answer = monthOf (steps f) a f
 
-    run-refused : (r : ℕ) → monthRefusal (steps f) a f ≡ suc r → run (suc n) a ≡ record { refusal = suc r; figures = []; state = a }
+    run-refused : (r : ℕ) → monthRefusal (steps f) a f ≡ suc r → run (suc n) a ≡ noMonth (suc r) a
     unfolding monthsBy
     run-refused r e = rw (month-refusal (steps f) a f, e, month-kept (steps f) a f r e)
 
-    run-accepted : monthRefusal (steps f) a f ≡ 0
-        → run (suc n) a
-        ≡ record { refusal = run n (answer .state) .refusal; figures = answer .blood ∷ run n (answer .state) .figures; state = run n (answer .state) .state }
+    run-accepted : monthRefusal (steps f) a f ≡ 0 → run (suc n) a ≡ monthThen answer (run n (answer .state))
     unfolding monthsBy
     run-accepted e = rw (month-refusal (steps f) a f, e)
 

@@ -6,14 +6,13 @@ use mathlib.Core.List.{List, [], _∷_}
 use native.Mathlib.Omega.{arith}
 use borrow.Author.Tests.{leb-true}
 use lib.ListN.{length}
-use lib.Dec.{leb}
-use Rattle.numbers.specs.Choice.{unless}
 use Rattle.numbers.specs.Lists.{totalOf}
 use Rattle.numbers.proofs.Refusals.{orElse-none, unless-none}
 use Rattle.row.specs.declared.Rates.{Rates}
 use Rattle.row.specs.Limits.{RateLimits}
 use Rattle.kinetics.specs.declared.State.{State}
 use Rattle.kinetics.specs.Step.{Exits, burden, burdenLimit, urineLedger, faecesLedger, skinLedger, next}
+use Rattle.state.specs.State.{burdenRefusal}
 use Rattle.margin.proofs.StepLaws.{step-law}
 use Rattle.steps.specs.Steps.{Step, exitsOf, leaves, stepsFrom, lastFrom, stepsRefusal}
 use Rattle.conservation.specs.Conservation.{Chain}
@@ -79,7 +78,7 @@ module _ (rates : State → Rates) where
     unfolding stepsRefusal lastFrom
     steps-within a [] r h = h
     steps-within a (u ∷ us) r h =
-        let p = orElse-none (unless (leb (burden (a .lead) + u) burdenLimit) 22) _ r in
+        let p = orElse-none (burdenRefusal (burden (a .lead) + u)) _ r in
         let room = leb-true (burden (a .lead) + u) burdenLimit (unless-none _ 22 (omega arith) (p .0)) in
         let c = step-conserves (rates a) a u (limits a) in
         steps-within (next (rates a) a u) us (p .1) (omega arith)

@@ -23,7 +23,7 @@ use Rattle.steps.specs.Steps.{daysAMonth, stepsFrom, lastFrom}
 use Rattle.engine.specs.Birth.{birthRefusals, birthRefusal, birthOf}
 use Rattle.child.specs.Birth.{newborn, newbornRefusal}
 use Rattle.engine.specs.Month.{monthRefusals, monthRefusal, monthOf}
-use Rattle.child.specs.Month.{monthAfter, exposureIn, monthUptake, monthRates, monthShares, childRefusals, childRefusal, monthLast}
+use Rattle.child.specs.Month.{monthAfter, exposureIn, monthUptake, monthRates, monthShares, monthEnd, childRefusals, childRefusal, monthLast}
 use Rattle.conservation.specs.Conservation.{Month, WholeMonth, dailyOf, stepsOf}
 use Rattle.child.specs.Internal.{Decoded}
 use Rattle.steps.proofs.Shares.{days-total, days-length, sumOf}
@@ -31,10 +31,6 @@ use Rattle.engine.proofs.FilesDecoded.{files-decoded}
 use Rattle.state.proofs.SoundState.{Sound, passed-sound}
 use Rattle.child.proofs.MonthAnswers.{month-after-most, answer-refusal, birth-answer-refusal}
 use Rattle.conservation.proofs.StepsBalance.{StepsBalanced, chain-to, steps-chain, steps-count, steps-uptake, steps-balance, steps-within}
-
--- the state that an accepted call answers, with the compartments and ledgers of the state that its steps left
-abbrev ended : State → State → State
-ended a last = record { month = monthAfter a; lead = last .lead; ledgers = last .ledgers }
 
 module _ (s : ℕ) (a : State) (f : Files) where
   pub month-refusal : monthOf s a f .refusal ≡ monthRefusal s a f
@@ -45,7 +41,7 @@ module _ (s : ℕ) (a : State) (f : Files) where
   unfolding monthOf
   month-kept r e = rw e
 
-  month-ended : monthRefusal s a f ≡ 0 → monthOf s a f .state ≡ ended a (monthLast s a (scenarioIn f) (tableIn f))
+  month-ended : monthRefusal s a f ≡ 0 → monthOf s a f .state ≡ monthEnd a (monthLast s a (scenarioIn f) (tableIn f))
   unfolding monthOf
   month-ended e = rw e
 
@@ -100,19 +96,19 @@ module _ (steps : Files → ℕ) (pos : (f : Files) → 0 < steps f) (a : State)
   abbrev last : State
   last = lastFrom rates a uptakes
 
-  month-balance : StepsBalanced a (ended a last) (stepsFrom rates a uptakes) (daysAMonth * T)
+  month-balance : StepsBalanced a (monthEnd a last) (stepsFrom rates a uptakes) (daysAMonth * T)
   month-balance =
       let b = rw uptakes-total at (steps-balance rates rates-within a uptakes) in
       record { lead = b .lead; urine = b .urine; faeces = b .faeces; skin = b .skin }
 
-  accepted-end : MonthDone steps (record { before = a; files = f; after = ended a last })
+  accepted-end : MonthDone steps (record { before = a; files = f; after = monthEnd a last })
   accepted-end =
       let before = passed-sound a (child-none 0) in
       let b = month-balance in
       record {
         whole = record {
           number = refl;
-          chain = chain-to a last (ended a last) (stepsFrom rates a uptakes) refl refl (steps-chain rates rates-within a uptakes);
+          chain = chain-to a last (monthEnd a last) (stepsFrom rates a uptakes) refl refl (steps-chain rates rates-within a uptakes);
           count = steps-count rates a uptakes ∙ uptakes-count;
           uptake = steps-uptake rates a uptakes ∙ uptakes-total;
         };

@@ -1,14 +1,13 @@
 -- What the month call, the start and the run answer, in the order of their refusals.
 -- Assumes nothing.
 use mathlib.Core.Path.{_≡_, refl, sym, ap, _∙_}
-use mathlib.Core.List.{List, [], _∷_}
-use lib.Dec.{eqb}
+use mathlib.Core.List.{List}
 use Prim.Native.Nat.{ℕ, zero, suc}
 use native.Mathlib.Omega.{arith}
-use lib.ListN.{length, getD}
+use lib.ListN.{length, getD, take, drop}
 use borrow.Author.Tests.{eqb-true}
-use Rattle.numbers.specs.Choice.{unless, orElse, firstOf, answerBy}
-use Rattle.numbers.proofs.Refusals.{orElse-first, orElse-last, firstOf-none, unless-none, answer-refused}
+use Rattle.numbers.specs.Choice.{unless, orElse, firstOf}
+use Rattle.numbers.proofs.Refusals.{orElse-first, orElse-last, firstOf-none, firstOf-last, unless-none, answer-refused}
 use Rattle.row.specs.Row.{lastMonth, rowOf}
 use Rattle.book.specs.Book.{tableNumbers}
 use Rattle.kinetics.specs.declared.State.{State}
@@ -56,14 +55,8 @@ module _ (f : Files) (places : ℕ) (table : List ℕ) {lengths : ℕ} (el : len
   unfolding startRefusal birthRefusal
   start-by-head =
       rw (eh, el, read .refusal)
-      (by (lengthRefusal f) (unless (eqb places lastMonth) 2) (filesRefusal f) (newbornRefusal (scenarioIn f) (tableIn f)))
-    where
-      by : (p q r n : ℕ) → firstOf (p ∷ q ∷ firstOf (r ∷ n ∷ []) ∷ []) ≡ orElse (firstOf (p ∷ q ∷ r ∷ [])) n
-      by (suc p) q r n = refl
-      by zero (suc q) r n = refl
-      by zero zero (suc r) n = refl
-      by zero zero zero zero = refl
-      by zero zero zero (suc n) = refl
+      (firstOf-last (take 2 (startRefusals f places)) (filesRefusal f) (drop 1 (birthRefusals f))
+      ∙ ap (orElse (firstOf (headRefusals (lengthRefusal f) places (filesRefusal f)))) (orElse-last (newbornRefusal (scenarioIn f) (tableIn f))))
 
   pub start-refused : (head ≡ 0 → ⊥) → (a : State) → a ≡ zeroState → Started f places table (record { refusal = head; scenario = y .scenario; state = a })
   start-refused h a ea =
@@ -96,17 +89,17 @@ length-first : (f : Files) (r : ℕ) → lengthRefusal f ≡ suc r → birthRefu
 unfolding birthRefusal filesRefusal beforeBookRefusal
 length-first f r e = rw e
 
-start-of-84 : (f : Files) → startRefusal f lastMonth ≡ birthRefusal f
+birth-is-start : (f : Files) → startRefusal f lastMonth ≡ birthRefusal f
 unfolding startRefusal unless
-start-of-84 f = by (lengthRefusal f) refl
+birth-is-start f = by-length (lengthRefusal f) refl
   where
-    by : (r : ℕ) → lengthRefusal f ≡ r → orElse r (orElse (birthRefusal f) 0) ≡ birthRefusal f
-    by zero e = orElse-last (birthRefusal f)
-    by (suc r) e = sym (length-first f r e)
+    by-length : (r : ℕ) → lengthRefusal f ≡ r → startRefusal f lastMonth ≡ birthRefusal f
+    by-length zero e = rw e (orElse-last (birthRefusal f))
+    by-length (suc r) e = rw (e, length-first f r e)
 
 pub birth-started : {f : Files} {table : List ℕ} {x : RunStart} → Started f lastMonth table x → birthIn x ≡ birthOf f
 unfolding birthOf
-birth-started {f} started = started .birth ∙ ap (λ (n : ℕ). birthAnswer n (newborn (scenarioIn f) (tableIn f))) (start-of-84 f)
+birth-started {f} started = started .birth ∙ ap (λ (n : ℕ). birthAnswer n (newborn (scenarioIn f) (tableIn f))) (birth-is-start f)
 
 -- a run that starts
 module _ (f : Files) (l : List ℕ) {table : List ℕ} {x : RunStart} (started : Started f (length l) table x) where
@@ -116,9 +109,7 @@ module _ (f : Files) (l : List ℕ) {table : List ℕ} {x : RunStart} (started :
   pub run-refused : (s : ℕ) → (x .refusal ≡ 0 → ⊥) → (y : RunAnswer) → y ≡ refusedRun (x .refusal) → Done (runOf s f (length l)) l y l
   unfolding runOf
   run-refused s h y ey =
-      let ran : answerBy (startRefusal f (length l)) (monthsBy (λ a. monthOf s a f) lastMonth (birthOf f .state)) (λ r. noMonth r zeroState) ≡ noMonth (x .refusal) zeroState =
-      ap (λ (n : ℕ). answerBy n (monthsBy (λ a. monthOf s a f) lastMonth (birthOf f .state)) (λ r. noMonth r zeroState)) (sym start-refusal)
-      ∙ answer-refused (monthsBy (λ a. monthOf s a f) lastMonth (birthOf f .state)) (λ r. noMonth r zeroState) (x .refusal) h in
+      let ran : runOf s f (length l) ≡ noMonth (x .refusal) zeroState = rw (← start-refusal) (answer-refused _ _ (x .refusal) h) in
       (ey ∙ ap runAnswer (sym ran), ap (λ (r : MonthsRun). runList r l) (sym ran))
 
   module _ (begun : x .refusal ≡ 0) where
@@ -126,8 +117,8 @@ module _ (f : Files) (l : List ℕ) {table : List ℕ} {x : RunStart} (started :
     unfolding startRefusal
     none = firstOf-none (startRefusals f (length l)) (sym start-refusal ∙ begun)
 
-    pub places-are-84 : length l ≡ lastMonth
-    places-are-84 = eqb-true (length l) lastMonth (unless-none _ 2 (omega arith) (none 1))
+    pub places-are-months : length l ≡ lastMonth
+    places-are-months = eqb-true (length l) lastMonth (unless-none _ 2 (omega arith) (none 1))
 
     pub start-passed : filesRefusal f ≡ 0
     unfolding birthRefusal

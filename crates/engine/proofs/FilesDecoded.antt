@@ -2,10 +2,10 @@
 -- Assumes nothing.
 use mathlib.Core.Path.{_≡_, sym, ap, ap₂, _∙_}
 use mathlib.Core.List.{List}
-use Prim.Native.Nat.{ℕ, zero, suc}
+use Prim.Native.Nat.{ℕ}
 use lib.ListN.{length, length-replicate}
-use Rattle.numbers.specs.Choice.{answerBy}
 use Rattle.numbers.proofs.Every.{length-tab}
+use Rattle.numbers.proofs.Refusals.{answer-both}
 use Rattle.site.specs.declared.Scenario.{Scenario}
 use Rattle.site.proofs.FieldsWithin.{mother-accepted}
 use Rattle.exposure.proofs.ExposureWithin.{exposure-accepted}
@@ -28,11 +28,9 @@ files-decoded f passed =
 -- a table has 85 rows of 23 numbers, whatever the book
 pub table-long : (book : List ℕ) → length (bookTable book) ≡ tableNumbers
 unfolding bookTable numbersOf blankTable
-table-long book = by (bookRefusal book)
-  where
-    by : (r : ℕ) → length (answerBy r (numbersOf book) (λ n. blankTable)) ≡ tableNumbers
-    by zero = length-tab tableNumbers _
-    by (suc r) = length-replicate {A = ℕ} tableNumbers 0
+table-long book =
+    answer-both (numbersOf book) (λ n. blankTable) (λ (l : List ℕ). length l ≡ tableNumbers)
+    (length-tab tableNumbers _) (λ n. length-replicate {A = ℕ} tableNumbers 0) (bookRefusal book)
 
 -- a scenario and a table that are those of accepted files
 module _ (f : Files) {scenario : Scenario} {table : List ℕ} (es : scenario ≡ scenarioIn f) (et : table ≡ tableIn f) where

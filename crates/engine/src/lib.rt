@@ -27,7 +27,7 @@ pub struct RunStart {
     pub state: State,
 }
 
-// Why a run does not come to its birth, or 0: lengths, then a list of so many places, then files.
+// Why a run is refused before its birth, or 0: lengths, then a list of so many places, then files.
 fn head_refusal(lengths: u32, places: usize, files: u32) -> u32
     ensures { λ r. ⌜ r ≡ firstOf (headRefusals lengths places files) ⌝ }
 {

@@ -19,9 +19,9 @@ module _ (f : Files) where
     unfolding beforeBookRefusal
     refused-by-length h = record { refusal = sym (rw (← el) (orElse-first lengths _ h)); scenario = λ z. absurd (h z) }
 
-    pub refused-by-site : lengths ≡ 0 → BeforeBookRead f (record { refusal = x .refusal; scenario = x .scenario })
+    pub site-decides : lengths ≡ 0 → BeforeBookRead f (record { refusal = x .refusal; scenario = x .scenario })
     unfolding beforeBookRefusal
-    refused-by-site long =
+    site-decides long =
         let its-refusal : x .refusal ≡ siteRefusal (f .site) = ap (λ (y : SiteRead). y .refusal) ex ∙ read-refusal (f .site) in
         record {
           refusal = sym (rw (sym el ∙ long, ← its-refusal) (orElse-last (x .refusal)));

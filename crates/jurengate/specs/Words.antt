@@ -5,6 +5,17 @@ use mathlib.Core.List.{List, [], _∷_}
 use lib.ListN.{getD}
 use Rattle.kinetics.specs.declared.State.{State}
 
+-- a state's compartments and ledgers; with its month they are its words
+abbrev pub compartmentCount : ℕ
+compartmentCount = 7
+
+abbrev pub ledgerCount : ℕ
+ledgerCount = 3
+
+abbrev pub stateWords : ℕ
+stateWords = 11
+
+-- the words of a state, and the state of words
 abbrev pub wordsOf : State → List ℕ
 wordsOf a =
     a .month

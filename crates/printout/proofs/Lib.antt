@@ -2,5 +2,5 @@
 pub mod Bench
 pub mod MonthsAtMost
 pub mod FirstBytes
-pub mod Parts
+pub mod LineParts
 pub mod LinesAreWhole

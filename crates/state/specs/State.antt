@@ -30,6 +30,10 @@ stateRefusals a = unless (isState a) 20 ∷ unless (not (eqb (a .month) lastMont
 unfoldable pub stateRefusal : State → ℕ
 stateRefusal a = firstOf (stateRefusals a)
 
+-- 22: a burden, or a burden and what a step is to absorb, over 5 × 10^10
+abbrev pub burdenRefusal : ℕ → ℕ
+burdenRefusal held = unless (leb held burdenLimit) 22
+
 -- the all-zero state
 unfoldable pub zeroState : State
 zeroState = record { month = 0; lead = 0 ∷ 0 ∷ 0 ∷ 0 ∷ 0 ∷ 0 ∷ 0 ∷ []; ledgers = 0 ∷ 0 ∷ 0 ∷ [] }

@@ -1,16 +1,14 @@
 -- The loops over a day's steps and a month's days: what is ahead at the start, after a turn, and at the end.
 -- Assumes nothing.
 use mathlib.Core.Path.{_≡_, refl, sym, ap, _∙_}
-use mathlib.Core.Bool.{Bool, true, false}
 use mathlib.Core.List.{List, [], _∷_, _++_}
 use Prim.Native.Nat.{ℕ, suc, _+_, _-_, _*_, _≤_, _<_}
 use native.Mathlib.Nat.{sub-zero}
 use native.Mathlib.Omega.{arith}
 use borrow.Author.Tests.{le-leb, lt-leb}
-use lib.Dec.{leb}
 use Rattle.numbers.specs.Choice.{unless, orElse}
 use Rattle.numbers.proofs.Lists.{total-append}
-use Rattle.numbers.proofs.Refusals.{orElse-first, orElse-assoc}
+use Rattle.numbers.proofs.Refusals.{orElse-first, orElse-not, orElse-assoc, unless-not}
 use Rattle.row.specs.declared.Rates.{Rates}
 use Rattle.row.specs.Limits.{RateLimits}
 use Rattle.kinetics.specs.declared.State.{State}
@@ -21,7 +19,7 @@ use Rattle.kinetics.specs.Internal.{DivisorsOf, Ready}
 use Rattle.steps.proofs.ShareSum.{share-law}
 use Rattle.margin.proofs.StepLaws.{step-law}
 use Rattle.steps.specs.declared.Reached.{Reached}
-use Rattle.state.specs.State.{ledgerSum, monthUptakeLimit}
+use Rattle.state.specs.State.{ledgerSum, monthUptakeLimit, burdenRefusal}
 use Rattle.steps.specs.Steps.{daysAMonth, sharesFrom, dayShares, daysShares, lastFrom, stepsRefusal}
 use Rattle.steps.specs.Internal.{Steppable, ReachedBy}
 use Rattle.steps.proofs.Shares.{sumOf, day-total, days-total}
@@ -46,19 +44,16 @@ module _ (rates : State → Rates) where
   unfolding stepsRefusal lastFrom
   refusal-append a [] vs = refl
   refusal-append a (u ∷ us) vs =
-      let over = unless (leb (burden (a .lead) + u) burdenLimit) 22 in
+      let over = burdenRefusal (burden (a .lead) + u) in
       ap (orElse over) (refusal-append (next (rates a) a u) us vs) ∙ orElse-assoc over (stepsRefusal rates (next (rates a) a u) us) _
 
   -- the only refusal of steps is 22
   pub steps-not : (n : ℕ) → 0 < n → (n ≡ 22 → ⊥) → (a : State) (us : List ℕ) → stepsRefusal rates a us ≡ n → ⊥
-  unfolding stepsRefusal unless
+  unfolding stepsRefusal
   steps-not n some h a [] e = omega arith
   steps-not n some h a (u ∷ us) e =
-      one (leb (burden (a .lead) + u) burdenLimit) (steps-not n some h (next (rates a) a u) us) e
-    where
-      one : (t : Bool) {rest : ℕ} → (rest ≡ n → ⊥) → orElse (unless t 22) rest ≡ n → ⊥
-      one true k f = k f
-      one false k f = h (sym f)
+      let rest = stepsRefusal rates (next (rates a) a u) us in
+      orElse-not n (burdenRefusal (burden (a .lead) + u)) rest (unless-not _ 22 n some (λ z. h (sym z))) (steps-not n some h (next (rates a) a u) us) e
 
   last-append : (a : State) (us vs : List ℕ) → lastFrom rates a (us ++ vs) ≡ lastFrom rates (lastFrom rates a us) vs
   unfolding lastFrom
@@ -131,9 +126,9 @@ module _ (rates : State → Rates) where
         }
 
 -- a day of s steps from a that absorb t
-module _ {rates : State → Rates} {a : State} {s t more : ℕ} (ready : Steppable rates a s t more) where
+module _ {rates : State → Rates} {a : State} {s t more : ℕ} (steppable : Steppable rates a s t more) where
   pub day-start : Ahead rates a (dayShares s t) a (sharesFrom s t 0 (s - 0))
-  day-start = rw sub-zero (ahead-start rates a (dayShares s t) (ready .held))
+  day-start = rw sub-zero (ahead-start rates a (dayShares s t) (steppable .held))
 
   -- at step k the state is b
   module _ {b : State} (k : ℕ) (now : Ahead rates a (dayShares s t) b (sharesFrom s t k (s - k))) where
@@ -142,7 +137,7 @@ module _ {rates : State → Rates} {a : State} {s t more : ℕ} (ready : Steppab
     no-share-ahead h = let e : s - k ≡ 0 = omega arith in rw e at now
 
     pub day-end : s ≤ k → ReachedBy rates a (dayShares s t) t (record { refusal = 0; state = b })
-    day-end h = ahead-end rates (no-share-ahead h) (day-total s t (ready .some))
+    day-end h = ahead-end rates (no-share-ahead h) (day-total s t (steppable .some))
 
     -- held and u as the code computes them
     module _ (h : k < s) {held u : ℕ} (eh : held ≡ burden (b .lead)) (eu : u ≡ shareOf s t k) where
@@ -153,32 +148,32 @@ module _ {rates : State → Rates} {a : State} {s t more : ℕ} (ready : Steppab
           rw (e, ← eu) at now
 
       pub day-sum-fits : held + u ≤ burdenLimit + 6_000_000_000
-      day-sum-fits = omega (arith, now .held, eh, eu, share-law s t (ready .some) .each k h, ready .daily)
+      day-sum-fits = omega (arith, now .held, eh, eu, share-law s t (steppable .some) .each k h, steppable .daily)
 
       pub day-refused : burdenLimit < held + u → ReachedBy rates a (dayShares s t) t (record { refusal = 22; state = b })
       day-refused over = turn-refused rates (u ∷ []) _ share-ahead (step-refused rates b u (omega (arith, eh))) (λ z. omega arith) t
 
       pub day-ready : {q : Divisors} → DivisorsOf (rates b) q → 6_000_000_000 ≤ more → held + u ≤ burdenLimit → Ready (rates b) q b u
       day-ready divisors enough fits =
-          let total = day-total s t (ready .some) in
+          let total = day-total s t (steppable .some) in
           let all = share-ahead .all in
-          let room = ready .room in
+          let room = steppable .room in
           record {
-            limits = ready .limits b;
+            limits = steppable .limits b;
             divisors-of = divisors;
             room = omega (arith, eh);
-            urine-room = omega (arith, ready .daily);
-            faeces-room = omega (arith, ready .daily);
-            skin-room = omega (arith, ready .daily);
+            urine-room = omega (arith, steppable .daily);
+            faeces-room = omega (arith, steppable .daily);
+            skin-room = omega (arith, steppable .daily);
           }
 
       pub day-next : held + u ≤ burdenLimit → (c : State) → c ≡ next (rates b) b u → Ahead rates a (dayShares s t) c (sharesFrom s t (k + 1) (s - (k + 1)))
-      day-next fits c e = rw e (turn-next rates (u ∷ []) _ share-ahead (step-taken rates b u (ready .limits b) (omega (arith, eh))) (omega arith) refl)
+      day-next fits c e = rw e (turn-next rates (u ∷ []) _ share-ahead (step-taken rates b u (steppable .limits b) (omega (arith, eh))) (omega arith) refl)
 
 -- a month of thirty such days
-module _ {rates : State → Rates} {a : State} {s t : ℕ} (ready : Steppable rates a s t monthUptakeLimit) where
+module _ {rates : State → Rates} {a : State} {s t : ℕ} (steppable : Steppable rates a s t monthUptakeLimit) where
   pub month-start : Ahead rates a (daysShares s t daysAMonth) a (daysShares s t daysAMonth)
-  month-start = ahead-start rates a (daysShares s t daysAMonth) (ready .held)
+  month-start = ahead-start rates a (daysShares s t daysAMonth) (steppable .held)
 
   -- at day d the state is b
   module _ {b : State} (d : ℕ) (now : Ahead rates a (daysShares s t daysAMonth) b (daysShares s t (daysAMonth - d))) where
@@ -187,7 +182,7 @@ module _ {rates : State → Rates} {a : State} {s t : ℕ} (ready : Steppable ra
     no-day-ahead h = let e : daysAMonth - d ≡ 0 = omega arith in rw e
 
     pub month-end : daysAMonth ≤ d → ReachedBy rates a (daysShares s t daysAMonth) (daysAMonth * t) (record { refusal = 0; state = b })
-    month-end h = ahead-end rates (rw (no-day-ahead h) at now) (days-total s t (ready .some) daysAMonth)
+    month-end h = ahead-end rates (rw (no-day-ahead h) at now) (days-total s t (steppable .some) daysAMonth)
 
     module _ (h : d < daysAMonth) where
       abbrev later : List ℕ
@@ -200,23 +195,23 @@ module _ {rates : State → Rates} {a : State} {s t : ℕ} (ready : Steppable ra
       day-ahead : Ahead rates a (daysShares s t daysAMonth) b (dayShares s t ++ later)
       day-ahead = rw days-ahead at now
 
-      pub month-ready : Steppable rates b s t 6_000_000_000
-      month-ready =
+      pub day-steppable : Steppable rates b s t 6_000_000_000
+      day-steppable =
           record {
-            limits = ready .limits;
-            some = ready .some;
-            few = ready .few;
-            daily = ready .daily;
+            limits = steppable .limits;
+            some = steppable .some;
+            few = steppable .few;
+            daily = steppable .daily;
             held = now .held;
             room =
                 omega (
                   arith,
-                  ready .room,
-                  ready .daily,
+                  steppable .room,
+                  steppable .daily,
                   day-ahead .all,
                   total-append (λ (u : ℕ). u) (dayShares s t) later,
-                  day-total s t (ready .some),
-                  days-total s t (ready .some) daysAMonth,
+                  day-total s t (steppable .some),
+                  days-total s t (steppable .some) daysAMonth,
                 );
           }
 
@@ -226,4 +221,4 @@ module _ {rates : State → Rates} {a : State} {s t : ℕ} (ready : Steppable ra
         month-refused z = turn-refused rates (dayShares s t) later day-ahead day z (daysAMonth * t)
 
         pub month-next : x .refusal ≡ 0 → Ahead rates a (daysShares s t daysAMonth) (x .state) later
-        month-next = turn-next rates (dayShares s t) later day-ahead day (day-total s t (ready .some))
+        month-next = turn-next rates (dayShares s t) later day-ahead day (day-total s t (steppable .some))

@@ -2,12 +2,12 @@
 -- Assumes nothing.
 use Prim.Native.Nat.{ℕ, zero, suc, _+_}
 use mathlib.Core.List.{List, [], _∷_, _++_}
-use lib.Dec.{leb}
-use Rattle.numbers.specs.Choice.{unless, orElse}
+use Rattle.numbers.specs.Choice.{orElse}
 use Rattle.row.specs.declared.Rates.{Rates}
 use Rattle.kinetics.specs.declared.State.{State}
+use Rattle.state.specs.State.{burdenRefusal}
 use Rattle.steps.specs.Share.{shareOf}
-use Rattle.kinetics.specs.Step.{burden, burdenLimit, Exits, exits, next}
+use Rattle.kinetics.specs.Step.{burden, Exits, exits, next}
 
 -- six steps a day, 30 days a month
 abbrev pub stepsADay : ℕ
@@ -54,4 +54,4 @@ lastFrom rates a (u ∷ us) = lastFrom rates (next (rates a) a u) us
 -- 22: burden plus uptake over 5 × 10^10 at some step
 unfoldable pub stepsRefusal : (State → Rates) → State → List ℕ → ℕ
 stepsRefusal rates a [] = 0
-stepsRefusal rates a (u ∷ us) = orElse (unless (leb (burden (a .lead) + u) burdenLimit) 22) (stepsRefusal rates (next (rates a) a u) us)
+stepsRefusal rates a (u ∷ us) = orElse (burdenRefusal (burden (a .lead) + u)) (stepsRefusal rates (next (rates a) a u) us)

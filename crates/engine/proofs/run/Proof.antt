@@ -5,7 +5,7 @@ use borrow.Author.Needs.{needs}
 use denote.Ref.{now}
 use Rattle.steps.specs.Steps.{stepsADay}
 use Rattle.files.specs.Files.{Files, filesOf}
-use Rattle.engine.proofs.CallAnswers.{run-refused, places-are-84, start-long, start-decoded, run-months}
+use Rattle.engine.proofs.CallAnswers.{run-refused, places-are-months, start-long, start-decoded, run-months}
 use Rattle.engine.proofs.run.Statement.{statement}
 use Rattle.engine.proofs.run.Tie as tie
 
@@ -13,7 +13,7 @@ use Rattle.engine.proofs.run.Tie as tie
 abbrev files : tie.Start → Files
 files begin = filesOf (now (begin .args .site)) (now (begin .args .book))
 
--- the beginning, from where the run is started
+-- the run's beginning, by what is known after `start` has answered
 abbrev begin-of : tie.After-start → tie.Start
 begin-of c = c .before .before .before .before .before
 
@@ -41,7 +41,7 @@ months-requires c κs =
     let f = files (begin-of s) in
     let l = now (begin-of s .args .blood) in (
       start-long f l (s .start .ensures) (started .if1 .left),
-      (start-decoded f l (s .start .ensures) (started .if1 .left), places-are-84 f l (s .start .ensures) (started .if1 .left)),
+      (start-decoded f l (s .start .ensures) (started .if1 .left), places-are-months f l (s .start .ensures) (started .if1 .left)),
     )
 
 same-length : tie.Need-same-length

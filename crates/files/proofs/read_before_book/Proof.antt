@@ -3,7 +3,7 @@
 use borrow.Author.Needs.{needs}
 use denote.Ref.{now}
 use Rattle.files.specs.Files.{filesOf}
-use Rattle.files.proofs.ReadAnswers.{refused-by-length, refused-by-site}
+use Rattle.files.proofs.ReadAnswers.{refused-by-length, site-decides}
 use Rattle.files.proofs.read_before_book.Statement.{statement}
 use Rattle.files.proofs.read_before_book.Tie as tie
 
@@ -25,7 +25,7 @@ returns-2 c =
     let lengths = c .before in
     let read = lengths .before .before in
     let a = read .before .before .before .args in
-    refused-by-site (filesOf (now (a .site)) (now (a .book))) (lengths .length-refusal .ensures) (read .read-site .ensures) (c .if1 .left)
+    site-decides (filesOf (now (a .site)) (now (a .book))) (lengths .length-refusal .ensures) (read .read-site .ensures) (c .if1 .left)
 
 pub read-before-book-spec : {M : Type 1} → statement M
 read-before-book-spec = tie.close (tie.spec read-site-requires length-refusal-requires returns returns-2)

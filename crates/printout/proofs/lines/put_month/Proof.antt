@@ -1,7 +1,7 @@
 -- `printout::lines::put_month` meets its contract: each part put after the one before.
 -- Assumes nothing.
 use borrow.Author.Needs.{needs}
-use Rattle.printout.proofs.Parts.{put-month}
+use Rattle.printout.proofs.LineParts.{put-month}
 use Rattle.printout.proofs.lines.put_month.Statement.{statement}
 use Rattle.printout.proofs.lines.put_month.Tie as tie
 

@@ -1,7 +1,7 @@
 -- `printout::lines::put_refused` meets its contract: each part put after the one before.
 -- Assumes nothing.
 use borrow.Author.Needs.{needs}
-use Rattle.printout.proofs.Parts.{put-refused}
+use Rattle.printout.proofs.LineParts.{put-refused}
 use Rattle.printout.proofs.lines.put_refused.Statement.{statement}
 use Rattle.printout.proofs.lines.put_refused.Tie as tie
 

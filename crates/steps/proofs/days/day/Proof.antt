@@ -19,8 +19,8 @@ loop-holds c = day-start (c .pre .1)
 
 share-requires : tie.Need-share-requires Inv-loop μ-loop
 share-requires c κs =
-    let ready = c .before .before .pre .1 in
-    omega (arith, ready .some, ready .few, ready .daily)
+    let steppable = c .before .before .pre .1 in
+    omega (arith, steppable .some, steppable .few, steppable .daily)
 
 burden-of-requires : tie.Need-burden-of-requires Inv-loop μ-loop
 burden-of-requires c κs = c .before .before .loop .inv .held

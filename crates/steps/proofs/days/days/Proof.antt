@@ -3,7 +3,7 @@
 use Prim.Native.Nat.{_-_}
 use borrow.Author.Needs.{needs}
 use Rattle.steps.specs.Steps.{daysAMonth, daysShares}
-use Rattle.steps.proofs.Loops.{Ahead, month-start, month-ready, month-refused, month-next, month-end}
+use Rattle.steps.proofs.Loops.{Ahead, month-start, day-steppable, month-refused, month-next, month-end}
 use Rattle.steps.proofs.days.days.Statement.{statement}
 use Rattle.steps.proofs.days.days.Tie as tie
 
@@ -18,8 +18,8 @@ loop-holds c = month-start (c .pre .1)
 
 day-requires : tie.Need-day-requires Inv-loop μ-loop
 day-requires c κs =
-    let ready = c .before .before .pre in
-    (ready .0, month-ready (ready .1) (c .before .loop .d) (c .before .loop .inv) (c .loop-test .taken))
+    let pre = c .before .before .pre in
+    (pre .0, day-steppable (pre .1) (c .before .loop .d) (c .before .loop .inv) (c .loop-test .taken))
 
 returns : tie.Need-returns Inv-loop μ-loop
 returns c =
