@@ -69,12 +69,12 @@
 #define JURENGATE_BLOOD_MOST 50000000                      /* the largest blood figure, thousandths of ug/dL */
 
 /* Bytes of stack that suffice for each call, memcpy and memset included. */
-#define JURENGATE_STACK_READ_SITE 1920
-#define JURENGATE_STACK_READ_BOOK 448
+#define JURENGATE_STACK_READ_SITE 1536
+#define JURENGATE_STACK_READ_BOOK 360
 #define JURENGATE_STACK_WRITE_BLOCK 272
-#define JURENGATE_STACK_BIRTH 11520
+#define JURENGATE_STACK_BIRTH 11120
 #define JURENGATE_STACK_MONTH 11600
-#define JURENGATE_STACK_RUN 11800
+#define JURENGATE_STACK_RUN 11400
 
 /* What a call answers. JURENGATE_NO_STATE: the month is over 84, the compartments are together over JURENGATE_BURDEN_MOST, or these
  * and the ledgers together over JURENGATE_BURDEN_MOST + month * JURENGATE_MONTH_UPTAKE_MOST. */

@@ -3,10 +3,10 @@
 /// A call, and the bytes of stack that it may take: what was measured (docs/MEASURED.md) and a tenth of it,
 /// 256 bytes at least.
 pub const STACK_BOUNDS: [(&str, usize); 6] = [
-    ("read_site", 1_920),
-    ("read_book", 448),
+    ("read_site", 1_536),
+    ("read_book", 360),
     ("write_block", 272),
-    ("birth", 11_520),
+    ("birth", 11_120),
     ("month", 11_600),
-    ("run", 11_800),
+    ("run", 11_400),
 ];
