@@ -3,9 +3,10 @@ use block::BLOCK_BYTES;
 use block::FIELDS_AT;
 use block::Form;
 use block::WRONG_LENGTH;
+use places::AGES;
 use places::FIELDS;
 ghost use mathlib.Core.Path.{_≡_};
-ghost use Rattle.site.specs.Scenario.{dustSourceOf, waterSourceOf, scenarioOf};
+ghost use Rattle.site.specs.Scenario.{dustSourceOf, waterSourceOf, dietsIn, scenarioOf, withDiets};
 ghost use Rattle.site.specs.Site.{refusedWith, readSite};
 
 mod limits;
@@ -35,9 +36,10 @@ pub enum WaterSource {
     ThreeSources,
 }
 
-// A site file's fields, with its two modes decoded.
+// A site file's fields, with the diet of each age and the two modes decoded.
 pub struct Scenario {
     pub fields: [u32; FIELDS],
+    pub diets: [u64; AGES], // pg/day: the fields' own, or those of foods, which are in 64 bits
     pub dust_source: DustSource,
     pub water_source: WaterSource,
 }
@@ -68,14 +70,46 @@ fn water_source_of(mode: u32) -> WaterSource
     }
 }
 
+// The diet of each age, as the fields give it.
+fn diets_in(fields: [u32; FIELDS]) -> [u64; AGES]
+    ensures { λ r. ⌜ r ≡ dietsIn fields ⌝ }
+{
+    [
+        fields[places::DIET] as u64,
+        fields[places::DIET + 1] as u64,
+        fields[places::DIET + 2] as u64,
+        fields[places::DIET + 3] as u64,
+        fields[places::DIET + 4] as u64,
+        fields[places::DIET + 5] as u64,
+        fields[places::DIET + 6] as u64,
+    ]
+}
+
 // The scenario of a site file's fields.
 fn scenario_of(fields: [u32; FIELDS]) -> Scenario
     ensures { λ r. ⌜ r ≡ scenarioOf fields ⌝ }
 {
     let dust_source = dust_source_of(fields[places::DUST_MODE]);
     let water_source = water_source_of(fields[places::WATER_MODE]);
+    let diets = diets_in(fields);
     Scenario {
         fields,
+        diets,
+        dust_source,
+        water_source,
+    }
+}
+
+// A scenario with other diets than its fields have.
+pub fn with_diets(scenario: Scenario, diets: [u64; AGES]) -> Scenario
+    ensures { λ r. ⌜ r ≡ withDiets diets scenario ⌝ }
+{
+    let fields = scenario.fields;
+    let dust_source = scenario.dust_source;
+    let water_source = scenario.water_source;
+    Scenario {
+        fields,
+        diets,
         dust_source,
         water_source,
     }
@@ -87,6 +121,7 @@ fn refused_with(refusal: u32) -> SiteRead
 {
     let scenario = Scenario {
         fields: [0; FIELDS],
+        diets: [0; AGES],
         dust_source: DustSource::Given,
         water_source: WaterSource::Constant,
     };
