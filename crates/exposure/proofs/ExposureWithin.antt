@@ -10,12 +10,13 @@ use lib.Dec.{leb}
 use Rattle.numbers.specs.Choice.{every}
 use Rattle.numbers.proofs.Lists.{each-getD}
 use Rattle.site.specs.declared.Scenario.{Scenario}
-use Rattle.site.specs.Fields.{lastAge, ages, singlesAt, singles, at, limits, single, fieldsFit}
-use Rattle.site.specs.Site.{readSite}
-use Rattle.site.proofs.FieldsWithin.{field-le, range-le, saturation-ge, shares-le, accepted-fit}
+use Rattle.site.specs.Fields.{lastAge, ages, singlesAt, singles, at, limits, byAge, dietGroup, single, fieldsFit}
+use Rattle.site.specs.Scenario.{dietsIn, scenarioOf, withDiets}
+use Rattle.site.specs.Site.{siteFields, readSite}
+use Rattle.site.proofs.FieldsWithin.{field-le, range-le, saturation-ge, shares-le, fields-passed, accepted-scenario, accepted-fit}
 use Rattle.exposure.specs.Exposure.{percentagesFrom, exposureAt}
 use Rattle.exposure.specs.Limits.{ExposureLimits}
-use Rattle.exposure.specs.Laws.{ExposureWithin}
+use Rattle.exposure.specs.Laws.{ExposureWithin, DietWithin}
 
 module _ (fields : List ℕ) (fit : fieldsFit fields ≡ true) where
   -- a field that each age has, by the limit of its group
@@ -52,7 +53,6 @@ exposure-within s fit age h =
       hours = group-le f fit 1 24 refl (omega arith) age h;
       breathing = group-le f fit 2 100_000 refl (omega arith) age h;
       absorption = group-le f fit 3 100 refl (omega arith) age h;
-      diet = group-le f fit 4 1_000_000_000 refl (omega arith) age h;
       water = group-le f fit 5 10_000 refl (omega arith) age h;
       soil = group-le f fit 6 50_000_000 refl (omega arith) age h;
       dust = group-le f fit 7 50_000_000 refl (omega arith) age h;
@@ -74,4 +74,17 @@ exposure-within s fit age h =
     }
 
 pub exposure-accepted : ExposureWithin
-exposure-accepted site passed age h = exposure-within (readSite site .scenario) (accepted-fit site passed) age h
+exposure-accepted site diets passed age h = exposure-within (withDiets diets (readSite site .scenario)) (accepted-fit site passed) age h
+
+-- the diets of fields within their limits
+diet-le : (fields : List ℕ) → fieldsFit fields ≡ true → (age : ℕ) → age ≤ lastAge → at (dietsIn fields) age ≤ 1_000_000_000
+unfolding limits every
+diet-le fields fit age h =
+    let within : (a : ℕ) → a ≤ lastAge → byAge fields dietGroup a ≤ 1_000_000_000 = group-le fields fit dietGroup 1_000_000_000 refl (omega arith) in
+    each-getD (λ d. d ≤ 1_000_000_000) (omega arith) (dietsIn fields)
+    (within 0 (omega arith), (within 1 (omega arith), (within 2 (omega arith), (within 3 (omega arith), (within 4 (omega arith), (within 5 (omega arith), (within 6 (omega arith), tt)))))))
+    age
+
+pub diet-accepted : DietWithin
+unfolding exposureAt scenarioOf
+diet-accepted site passed age h = rw (accepted-scenario site passed) (diet-le (siteFields site) (fields-passed site passed) age h)

@@ -5,22 +5,22 @@ use mathlib.Core.List.{List, [], _∷_}
 use Rattle.site.specs.declared.DustSource.{DustSource}
 use Rattle.site.specs.declared.WaterSource.{WaterSource}
 use Rattle.site.specs.declared.Scenario.{Scenario}
-use Rattle.site.specs.Fields.{byAge, single, firstDrawShareIn, fountainShareIn, saturationIn}
+use Rattle.site.specs.Fields.{at, byAge, single, firstDrawShareIn, fountainShareIn, saturationIn}
 use Rattle.exposure.specs.declared.Exposure.{Exposure}
 
 -- the percentages of the five eaten media, diet, water, dust, soil, alternate: five single fields from k
 abbrev pub percentagesFrom : List ℕ → ℕ → List ℕ
 percentagesFrom fields k = single fields k ∷ single fields (k + 1) ∷ single fields (k + 2) ∷ single fields (k + 3) ∷ single fields (k + 4) ∷ []
 
--- the exposure of an age from 0 to 6, from fields and sources
-abbrev pub exposureFrom : List ℕ → DustSource → WaterSource → ℕ → Exposure
-exposureFrom fields dustSource waterSource age =
+-- the exposure of an age from 0 to 6, from fields, diets and sources
+abbrev pub exposureFrom : List ℕ → List ℕ → DustSource → WaterSource → ℕ → Exposure
+exposureFrom fields diets dustSource waterSource age =
     record {
       air = byAge fields 0 age;
       «hours_out» = byAge fields 1 age;
       breathing = byAge fields 2 age;
       «air_absorption» = byAge fields 3 age;
-      diet = byAge fields 4 age;
+      diet = at diets age;
       water = byAge fields 5 age;
       soil = byAge fields 6 age;
       dust = byAge fields 7 age;
@@ -45,4 +45,4 @@ exposureFrom fields dustSource waterSource age =
 
 -- the exposure of an age from 0 to 6
 unfoldable pub exposureAt : Scenario → ℕ → Exposure
-exposureAt s age = exposureFrom (s .fields) (s .«dust_source») (s .«water_source») age
+exposureAt s age = exposureFrom (s .fields) (s .diets) (s .«dust_source») (s .«water_source») age

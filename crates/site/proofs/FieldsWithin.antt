@@ -58,7 +58,7 @@ module _ (site : List ℕ) (passed : siteRefusal site ≡ 0) where
   unfolding siteRefusal
   none = firstOf-none (siteRefusals site) passed
 
-  fields-passed : fieldsFit (siteFields site) ≡ true
+  pub fields-passed : fieldsFit (siteFields site) ≡ true
   fields-passed = unless-none _ 7 (omega arith) (none 2)
 
   -- an accepted file's scenario is that of its fields
