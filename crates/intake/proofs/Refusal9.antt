@@ -15,13 +15,18 @@ use Rattle.site.specs.Fields.{at}
 use Rattle.exposure.specs.declared.Exposure.{Exposure}
 use Rattle.exposure.specs.Limits.{ExposureLimits}
 use Rattle.intake.specs.declared.Intakes.{Intakes}
-use Rattle.intake.specs.Intake.{airIntake, waterMedium, dustMedium, soilMedium, intakesOf, intakeOf, intakeFits, refusalOf, intakeRefusal}
-use Rattle.intake.specs.Laws.{Passed, RefusalLaw}
+use Rattle.intake.specs.Intake.{airIntake, dietMedium, waterMedium, dustMedium, soilMedium, intakesOf, intakeOf, intakeFits, refusalOf, intakeRefusal}
+use Rattle.intake.specs.Laws.{Passed, NineLaw, FourAlone}
 
 -- the tests of the intakes, in their order, and those that are left after the first k
 abbrev pub intakeTests : Intakes → List Bool
 intakeTests i =
-    intakeFits (i .air) ∷ intakeFits (at (i .media) waterMedium) ∷ intakeFits (at (i .media) soilMedium) ∷ intakeFits (at (i .media) dustMedium) ∷ []
+    intakeFits (i .air)
+    ∷ intakeFits (at (i .media) waterMedium)
+    ∷ intakeFits (at (i .media) soilMedium)
+    ∷ intakeFits (at (i .media) dustMedium)
+    ∷ intakeFits (at (i .media) dietMedium)
+    ∷ []
 
 abbrev pub TestsLeft : ℕ → Intakes → Type 0
 TestsLeft k i = allOf (drop k (intakeTests i)) ≡ allOf (intakeTests i)
@@ -45,13 +50,19 @@ passed-of e t =
     let air = and-both _ _ t in
     let water = and-both _ _ (air .1) in
     let soil = and-both _ _ (water .1) in
-    record { air = leb-true _ _ (air .0); water = leb-true _ _ (water .0); soil = leb-true _ _ (soil .0); dust = leb-true _ _ (soil .1) }
+    let dust = and-both _ _ (soil .1) in
+    record {
+      four = record { air = leb-true _ _ (air .0); water = leb-true _ _ (water .0); soil = leb-true _ _ (soil .0); dust = leb-true _ _ (dust .0) };
+      diet = leb-true _ _ (dust .1);
+    }
 
 all-of : (e : Exposure) → Passed e → allPass e ≡ true
 unfolding allPass intakesOf
 all-of e p =
-    and-true _ _ (le-leb _ _ (p .air))
-    (and-true _ _ (le-leb _ _ (p .water)) (and-true _ _ (le-leb _ _ (p .soil)) (le-leb _ _ (p .dust))))
+    let four = p .four in
+    and-true _ _ (le-leb _ _ (four .air))
+    (and-true _ _ (le-leb _ _ (four .water))
+    (and-true _ _ (le-leb _ _ (four .soil)) (and-true _ _ (le-leb _ _ (four .dust)) (le-leb _ _ (p .diet)))))
 
 -- a test that does not hold is answered with 9
 nine-of : (t : Bool) → (t ≡ true → ⊥) → unless t 9 ≡ 9
@@ -59,13 +70,21 @@ unfolding unless
 nine-of true h = absurd (h refl)
 nine-of false h = refl
 
-pub refusal-law : (e : Exposure) → RefusalLaw e
+pub nine-law : NineLaw
 unfolding unless
-refusal-law e =
+nine-law e =
     record {
       passes = λ p. rw (refusal-is e, all-of e p);
       passed = λ z. passed-of e (unless-none (allPass e) 9 (omega arith) (rw (refusal-is e) at z));
       nine = λ h. rw (refusal-is e) (nine-of (allPass e) (λ t. h (passed-of e t)));
+    }
+
+pub four-alone : FourAlone
+four-alone e small =
+    record {
+      passes = λ p. nine-law e .passes (record { four = p; diet = small });
+      passed = λ z. nine-law e .passed z .four;
+      nine = λ h. nine-law e .nine (λ p. h (p .four));
     }
 
 pub intake-of-input : (e : Exposure) → OfInput (intakeRefusal e)
@@ -75,11 +94,12 @@ intake-of-input e = unless-of-input _ 9 (omega arith)
 -- the intakes of an exposure that 9 does not refuse
 module _ {e : Exposure} (lim : ExposureLimits e) (passed : intakeRefusal e ≡ 0) where
   pub air-most : airIntake e ≤ 1_000_000_000
-  air-most = refusal-law e .passed passed .air
+  air-most = nine-law e .passed passed .four .air
 
   pub intake-most : (medium : ℕ) → medium < 5 → intakeOf e medium ≤ 1_000_000_000
   unfolding intakesOf
   intake-most medium l =
-      let within = refusal-law e .passed passed in
+      let within = nine-law e .passed passed in
+      let four = within .four in
       each-getD (λ x. x ≤ 1_000_000_000) (omega arith) (intakesOf e .media)
-      (lim .diet, (within .water, (within .dust, (within .soil, (lim .alternate, tt))))) medium
+      (within .diet, (four .water, (four .dust, (four .soil, (lim .alternate, tt))))) medium

@@ -1,4 +1,4 @@
--- What a child takes in a day, in pg (document 01, "Intake and uptake", E-1 to E-11), and refusal 9.
+-- What a child takes in a day, in pg (document 01, "Intake and uptake", E-1 to E-11), and refusal 9 (with a diet, document 02, [1]).
 -- Assumes nothing.
 use Prim.Native.Nat.{ℕ, _+_, _-_, _*_, _/_}
 use mathlib.Core.Bool.{Bool, _&&_}
@@ -61,7 +61,7 @@ dustMedium = 2
 abbrev pub soilMedium : ℕ
 soilMedium = 3
 
--- all intakes of an exposure: diet and alternate are given
+-- all intakes of an exposure: diet, the site file's or that of foods, and alternate are given
 unfoldable pub intakesOf : Exposure → Intakes
 intakesOf e =
     record {
@@ -77,10 +77,17 @@ intakeOf e medium = at (intakesOf e .media) medium
 abbrev pub intakeFits : ℕ → Bool
 intakeFits intake = leb intake 1_000_000_000
 
--- an air, water, soil or dust intake over 10^9: 9
+-- an air, water, soil or dust intake over 10^9: 9; a diet over 10^9 joins it
+abbrev pub intakesFit : Intakes → Bool
+intakesFit i =
+    intakeFits (i .air)
+    && (intakeFits (at (i .media) waterMedium)
+    && (intakeFits (at (i .media) soilMedium)
+    && (intakeFits (at (i .media) dustMedium)
+    && intakeFits (at (i .media) dietMedium))))
+
 unfoldable pub refusalOf : Intakes → ℕ
-refusalOf i =
-    unless (intakeFits (i .air) && (intakeFits (at (i .media) waterMedium) && (intakeFits (at (i .media) soilMedium) && intakeFits (at (i .media) dustMedium)))) 9
+refusalOf i = unless (intakesFit i) 9
 
 unfoldable pub intakeRefusal : Exposure → ℕ
 intakeRefusal e = refusalOf (intakesOf e)

@@ -18,11 +18,13 @@ const THOUSANDTHS: u64 = 1_000; // of µg/g, in which soil and dust are
 
 const THOUSANDTHS_A_HUNDREDTH: u64 = 10;
 
-const INTAKE_MOST: u64 = 1_000_000_000; // pg/day, of air, water, soil and dust
+const INTAKE_MOST: u64 = 1_000_000_000; // pg/day, of air, water, soil, dust and diet
 
 const INTAKE_TOO_LARGE: u32 = 9; // refusal
 
-const WATER_MEDIUM: usize = 1; // its place in the eaten media, as of the next two
+const DIET_MEDIUM: usize = 0; // its place in the eaten media, as of the next three
+
+const WATER_MEDIUM: usize = 1;
 
 const DUST_MEDIUM: usize = 2;
 
@@ -118,7 +120,7 @@ pub fn intakes_of(e: Exposure) -> Intakes
     }
 }
 
-// Refusal 9, or 0: an air, water, soil or dust intake over 10^9.
+// Refusal 9, or 0: an air, water, soil or dust intake or a diet over 10^9.
 pub fn intake_refusal(intakes: Intakes) -> u32
     ensures { λ r. ⌜ r ≡ refusalOf intakes ⌝ }
 {
@@ -126,6 +128,7 @@ pub fn intake_refusal(intakes: Intakes) -> u32
     let water = media[WATER_MEDIUM];
     let soil = media[SOIL_MEDIUM];
     let dust = media[DUST_MEDIUM];
+    let diet = media[DIET_MEDIUM];
     if intakes.air > INTAKE_MOST {
         return INTAKE_TOO_LARGE;
     }
@@ -136,6 +139,9 @@ pub fn intake_refusal(intakes: Intakes) -> u32
         return INTAKE_TOO_LARGE;
     }
     if dust > INTAKE_MOST {
+        return INTAKE_TOO_LARGE;
+    }
+    if diet > INTAKE_MOST {
         return INTAKE_TOO_LARGE;
     }
     0

@@ -18,6 +18,9 @@ array-read-soil c = search needs
 array-read-dust : tie.Need-array-read-dust
 array-read-dust c = search needs
 
+array-read-diet : tie.Need-array-read-diet
+array-read-diet c = search needs
+
 -- the tests that are left after each that passed
 left-1 : (c : tie.Else1) → TestsLeft 1 (c .before .before .before .args .intakes)
 left-1 c = and-next _ _ refl (le-leb _ _ (c .if1 .left))
@@ -27,6 +30,9 @@ left-2 c = and-next _ _ (left-1 (c .before)) (le-leb _ _ (c .if2 .left))
 
 left-3 : (c : tie.Else3) → TestsLeft 3 (c .before .before .before .before .before .args .intakes)
 left-3 c = and-next _ _ (left-2 (c .before)) (le-leb _ _ (c .if3 .left))
+
+left-4 : (c : tie.Else4) → TestsLeft 4 (c .before .before .before .before .before .before .args .intakes)
+left-4 c = and-next _ _ (left-3 (c .before)) (le-leb _ _ (c .if4 .left))
 
 returns : tie.Need-returns
 unfolding unless
@@ -42,11 +48,15 @@ returns-3 c = refusal-by-tests _ (and-stop _ _ (left-2 (c .before)) (lt-leb _ _ 
 
 returns-4 : tie.Need-returns-4
 unfolding unless
-returns-4 c = refusal-by-tests _ (sym (lt-leb _ _ (c .if4 .taken)) ∙ left-3 (c .before))
+returns-4 c = refusal-by-tests _ (and-stop _ _ (left-3 (c .before)) (lt-leb _ _ (c .if4 .taken)))
 
 returns-5 : tie.Need-returns-5
 unfolding unless
-returns-5 c = refusal-by-tests _ (sym (le-leb _ _ (c .if4 .left)) ∙ left-3 (c .before))
+returns-5 c = refusal-by-tests _ (sym (lt-leb _ _ (c .if5 .taken)) ∙ left-4 (c .before))
+
+returns-6 : tie.Need-returns-6
+unfolding unless
+returns-6 c = refusal-by-tests _ (sym (le-leb _ _ (c .if5 .left)) ∙ left-4 (c .before))
 
 pub intake-refusal-spec : {M : Type 1} → statement M
 intake-refusal-spec =
@@ -55,8 +65,10 @@ intake-refusal-spec =
     array-read-water
     array-read-soil
     array-read-dust
+    array-read-diet
     returns
     returns-2
     returns-3
     returns-4
-    returns-5)
+    returns-5
+    returns-6)
