@@ -12,7 +12,7 @@ use lib.Seq.{getD-append-add, take-at, length-take-le, take-all}
 use Rattle.numbers.specs.Choice.{unless, tab}
 use Rattle.numbers.proofs.Every.{every-shift, tab-same, tab-append, length-tab}
 use Rattle.numbers.proofs.Refusals.{orElse-first, orElse-last}
-use Rattle.block.specs.Block.{blockBytes, blockRefusal, fieldsOf, blockAt}
+use Rattle.block.specs.Block.{blockBytes, blockRefusal, fieldsFrom, fieldsOf, blockAt}
 use Rattle.block.proofs.BlockRefusals.{field}
 use Rattle.row.specs.Row.{numbersARow, rowsABlock, rowNumbers, rowFrom, rowOf, rowFits, rowsFit}
 use Rattle.book.specs.Book.{bookBlocks, numbersABlock, tableNumbers, bookForm, blockNumbers, bookBlockRefusal, blocksRefusal, bookNumber, numbersOf}
@@ -27,7 +27,7 @@ lent-block book n =
     rw e
 
 length-numbers : (block : List ℕ) → length (blockNumbers block) ≡ numbersABlock
-unfolding fieldsOf
+unfolding fieldsFrom
 length-numbers block = length-tab numbersABlock (field block)
 
 -- number j of block n in the book
@@ -159,7 +159,7 @@ module _ (book table : List ℕ) where
           }
 
       numbers-next : tab numbersABlock (λ (j : ℕ). bookNumber book (numbersABlock * n + j)) ≡ blockNumbers (blockAt book n)
-      unfolding fieldsOf
+      unfolding fieldsFrom
       numbers-next =
           tab-same numbersABlock (λ (j : ℕ). bookNumber book (numbersABlock * n + j)) (field (blockAt book n)) (number-in-block book n)
 

@@ -10,7 +10,7 @@ use lib.Seq.{length-take-le, getD-take, getD-drop, ext-getD}
 use Rattle.numbers.proofs.Every.{every-of, length-tab}
 use Rattle.numbers.proofs.Lists.{getD-below}
 use Rattle.numbers.specs.Choice.{unless}
-use Rattle.block.specs.Block.{fieldsABlock, blockRefusal, fieldsOf, blockAt}
+use Rattle.block.specs.Block.{fieldsAt, fieldsABlock, blockRefusal, fieldsOf, blockAt}
 use Rattle.block.specs.Writer.{sealed, bodyOf}
 use Rattle.block.proofs.Laid.{body-passes, fields-body}
 use Rattle.block.proofs.Sealed.{fields-sealed, sealed-passes, written-sealed}
@@ -25,7 +25,7 @@ pub body-read-back : BodyReadBack
 unfolding bookBlockRefusal unless
 body-read-back book body target n below room here passes fit =
     let block : blockAt book n ≡ sealed body = here ∙ written-sealed body target (passes .long) room in
-    let same : blockNumbers (blockAt book n) ≡ blockNumbers body = ap blockNumbers block ∙ fields-sealed body (passes .long) numbersABlock (omega arith) in
+    let same : blockNumbers (blockAt book n) ≡ blockNumbers body = ap blockNumbers block ∙ fields-sealed body (passes .long) fieldsAt numbersABlock (omega arith) in
     let header : blockRefusal (blockAt book n) (bookForm n) ≡ 0 =
     ap (λ (b : List ℕ). blockRefusal b (bookForm n)) block ∙ sealed-passes body (passes .long) (bookForm n) passes in
     record {

@@ -11,7 +11,7 @@ use borrow.Author.Tests.{eq-eqb}
 use Rattle.numbers.specs.Choice.{unless}
 use Rattle.numbers.proofs.Every.{every-at, getD-tab}
 use Rattle.numbers.proofs.Refusals.{orElse-none, firstOf-none, unless-none, OfInput, unless-of-input, orElse-of-input, firstOf-of-input}
-use Rattle.block.specs.Block.{fieldsOf, blockAt}
+use Rattle.block.specs.Block.{fieldsFrom, blockAt}
 use Rattle.block.proofs.BlockRefusals.{field, block-of-input}
 use Rattle.block.proofs.Sealed.{accepted-check}
 use Rattle.row.specs.Row.{rowsABlock, rowOf, rowFits, rowsFit}
@@ -46,7 +46,7 @@ whole-book book long h = rw (eq-eqb (length book) bookBytes long, blocks-none bo
 
 -- the numbers of block n in the book's table
 pub number-read : (book : List ℕ) (n j : ℕ) → n < bookBlocks → j < numbersABlock → getD (numbersOf book) (numbersABlock * n + j) 0 ≡ getD (blockNumbers (blockAt book n)) j 0
-unfolding numbersOf fieldsOf
+unfolding numbersOf fieldsFrom
 number-read book n j hn hj =
     getD-tab tableNumbers (bookNumber book) (numbersABlock * n + j) (omega arith) ∙ number-in-block book n j hj ∙ sym (getD-tab numbersABlock (field (blockAt book n)) j hj)
 

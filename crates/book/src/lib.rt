@@ -50,7 +50,7 @@ fn decode_block(book: &[u8], n: usize, table: &mut [u32]) -> u32
     }
     let first = BLOCK_NUMBERS * n;
     let last = first + BLOCK_NUMBERS;
-    block::read::read_fields(block, &mut table[first..last]);
+    block::read::read_fields(block, FIELDS_AT, &mut table[first..last]);
     let fit = row::limits::rows_fit(table, BLOCK_ROWS * n);
     if fit { 0 } else { ROW_OUTSIDE_LIMITS }
 }

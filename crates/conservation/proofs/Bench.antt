@@ -3,7 +3,7 @@
 use mathlib.Core.Path.{refl}
 use Rattle.numbers.specs.Sums.{sumTo}
 use Rattle.block.specs.Block.{wordAt, checkOf}
-use Rattle.block.specs.Writer.{le16, layout, bodyOf}
+use Rattle.block.specs.Writer.{le16, laidBy, bodyWith}
 use Rattle.uptake.specs.Age.{ageOf}
 use Rattle.intake.specs.Intake.{airIntake, mixedWater, waterIntake, soilIntake, dustConcentration, dustIntake, intakesOf}
 use Rattle.uptake.specs.Uptake.{percentOf, saturationOf, absorbable, absorbableTotal, passiveUptake, activePart, activeUptake, mediumUptake}
@@ -15,7 +15,7 @@ use Rattle.steps.specs.Steps.{sharesFrom}
 use Rattle.conservation.specs.Bench.{benchExposure, benchRates, benchRow, BenchFigures}
 
 pub bench-figures : BenchFigures
-unfolding benchExposure benchRates benchRow sumTo wordAt checkOf le16 layout bodyOf sharesFrom
+unfolding benchExposure benchRates benchRow sumTo wordAt checkOf le16 laidBy bodyWith sharesFrom
     ageOf airIntake mixedWater waterIntake soilIntake dustConcentration dustIntake intakesOf
     percentOf saturationOf absorbable absorbableTotal passiveUptake activePart activeUptake mediumUptake
     shareOf compartmentDivisor returned retained inflow divisor solvedPlasma newAmount urineExit compartmentExit exits newPlasma nextLead

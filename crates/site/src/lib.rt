@@ -140,7 +140,7 @@ pub fn read_site(site: &[u8]) -> SiteRead
         return refused_with(refusal);
     }
     let mut fields = [0u32; FIELDS];
-    block::read::read_fields(site, &mut fields);
+    block::read::read_fields(site, FIELDS_AT, &mut fields);
     if limits::fields_fit(fields) {
         let scenario = scenario_of(fields);
         SiteRead {

@@ -81,7 +81,7 @@ rows-fit-requires c κs = search needs
 rows-tested : {fit : Bool} (c : tie.After-rows-fit) → c .rows-fit .result ≡ fit →
     let read = c .before .before .before .before in
     let a = read .before .before .before .before .before .before .before .before .args in
-    BlockDecoded (now (a .book)) (a .n) (now (a .table)) (stored (a .n) (read .read-fields .last .1 .0) (now (a .table))) (unless fit 8)
+    BlockDecoded (now (a .book)) (a .n) (now (a .table)) (stored (a .n) (read .read-fields .last .1 .1 .0) (now (a .table))) (unless fit 8)
 rows-tested c answered =
     let read = c .before .before .before .before in
     let tested = read .before .before .before in
