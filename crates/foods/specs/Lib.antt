@@ -1,0 +1,5 @@
+pub mod Names
+pub mod Figures
+pub mod Foods
+pub mod Internal
+pub mod Laws

@@ -1,0 +1,78 @@
+-- The fifteen foods in the order of E-4d to E-4r, and the four own foods, which replace a share of others (document 02, [1]).
+-- Assumes nothing.
+use Prim.Native.Nat.{ℕ, _+_, _*_}
+
+abbrev pub beverage : ℕ  -- E-4d
+beverage = 0
+
+abbrev pub bread : ℕ  -- E-4e
+bread = 1
+
+abbrev pub canFruit : ℕ  -- E-4f
+canFruit = 2
+
+abbrev pub canVeg : ℕ  -- E-4g
+canVeg = 3
+
+abbrev pub candy : ℕ  -- E-4h
+candy = 4
+
+abbrev pub dairy : ℕ  -- E-4i
+dairy = 5
+
+abbrev pub freshFruit : ℕ  -- E-4j
+freshFruit = 6
+
+abbrev pub freshVeg : ℕ  -- E-4k
+freshVeg = 7
+
+abbrev pub formula : ℕ  -- E-4l
+formula = 8
+
+abbrev pub infant : ℕ  -- E-4m
+infant = 9
+
+abbrev pub juices : ℕ  -- E-4n
+juices = 10
+
+abbrev pub meat : ℕ  -- E-4o
+meat = 11
+
+abbrev pub nuts : ℕ  -- E-4p
+nuts = 12
+
+abbrev pub pasta : ℕ  -- E-4q
+pasta = 13
+
+abbrev pub sauce : ℕ  -- E-4r
+sauce = 14
+
+abbrev pub foodCount : ℕ
+foodCount = 15
+
+-- ages 0 to 6, and the foods' amounts at all of them
+abbrev pub ages : ℕ
+ages = 7
+
+abbrev pub amountCount : ℕ
+amountCount = ages * foodCount
+
+-- the own foods, home-grown vegetable and fruit, fish and game: the order of their shares, and of their leads
+abbrev pub vegetable : ℕ
+vegetable = 0
+
+abbrev pub fruit : ℕ
+fruit = 1
+
+abbrev pub fish : ℕ
+fish = 2
+
+abbrev pub game : ℕ
+game = 3
+
+abbrev pub ownCount : ℕ
+ownCount = 4
+
+-- all figures of a block, 128
+abbrev pub figureCount : ℕ
+figureCount = amountCount + foodCount + ownCount + ownCount

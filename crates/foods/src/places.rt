@@ -1,0 +1,48 @@
+// The places of the foods, in the order of E-4d to E-4r, and of the own foods, which replace a share of others.
+pub const BEVERAGE: usize = 0;
+
+pub const BREAD: usize = 1;
+
+pub const CAN_FRUIT: usize = 2;
+
+pub const CAN_VEG: usize = 3;
+
+pub const CANDY: usize = 4;
+
+pub const DAIRY: usize = 5;
+
+pub const FRESH_FRUIT: usize = 6;
+
+pub const FRESH_VEG: usize = 7;
+
+pub const FORMULA: usize = 8;
+
+pub const INFANT: usize = 9;
+
+pub const JUICES: usize = 10;
+
+pub const MEAT: usize = 11;
+
+pub const NUTS: usize = 12;
+
+pub const PASTA: usize = 13;
+
+pub const SAUCE: usize = 14;
+
+// The number of foods, of ages, and of the foods' amounts at all ages.
+pub const FOODS: usize = 15;
+
+pub const AGES: usize = 7;
+
+pub const AMOUNTS: usize = AGES * FOODS;
+
+// The own foods: home-grown vegetable and fruit, fish and game. Their shares and their leads stand in this order.
+pub const VEGETABLE: usize = 0;
+
+pub const FRUIT: usize = 1;
+
+pub const FISH: usize = 2;
+
+pub const GAME: usize = 3;
+
+pub const OWN_FOODS: usize = 4;
