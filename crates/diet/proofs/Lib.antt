@@ -1,0 +1,3 @@
+pub mod BenchDiet
+pub mod DietBounds
+pub mod TermBounds

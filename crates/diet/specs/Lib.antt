@@ -1,0 +1,3 @@
+pub mod Diet
+pub mod Laws
+pub mod Bench
