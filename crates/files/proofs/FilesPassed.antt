@@ -7,25 +7,36 @@ use native.Mathlib.Omega.{arith}
 use Rattle.numbers.proofs.Refusals.{firstOf-none, OfInput, unless-of-input, firstOf-of-input}
 use Rattle.site.specs.Site.{siteRefusal}
 use Rattle.site.proofs.FieldsWithin.{site-of-input}
+use Rattle.foods.proofs.FiguresWithin.{foods-of-input}
 use Rattle.book.specs.Book.{bookRefusal}
 use Rattle.book.proofs.RowsWithin.{book-of-input}
-use Rattle.files.specs.Files.{Files, beforeBookRefusals, beforeBookRefusal, filesRefusals, filesRefusal}
+use Rattle.files.specs.Files.{FoodsFile, none, handed, Files, foodsRefusalIn, beforeBookRefusals, beforeBookRefusal, filesRefusals, filesRefusal}
 
 module _ (f : Files) (passed : filesRefusal f ≡ 0) where
-  none : (k : ℕ) → getD (filesRefusals f) k 0 ≡ 0
+  passed-at : (k : ℕ) → getD (filesRefusals f) k 0 ≡ 0
   unfolding filesRefusal
-  none = firstOf-none (filesRefusals f) passed
+  passed-at = firstOf-none (filesRefusals f) passed
 
   pub book-passed : bookRefusal (f .book) ≡ 0
-  book-passed = none 1
+  book-passed = passed-at 1
+
+  before-book-at : (k : ℕ) → getD (beforeBookRefusals f) k 0 ≡ 0
+  unfolding beforeBookRefusal
+  before-book-at = firstOf-none (beforeBookRefusals f) (passed-at 0)
 
   pub site-passed : siteRefusal (f .site) ≡ 0
-  unfolding beforeBookRefusal
-  site-passed = firstOf-none (beforeBookRefusals f) (none 0) 1
+  site-passed = before-book-at 1
+
+  pub foods-passed : foodsRefusalIn (f .foods) ≡ 0
+  foods-passed = before-book-at 2
+
+foods-in-of-input : (file : FoodsFile) → OfInput (foodsRefusalIn file)
+foods-in-of-input none = omega arith
+foods-in-of-input (handed foods) = foods-of-input foods
 
 before-book-of-input : (f : Files) → OfInput (beforeBookRefusal f)
 unfolding beforeBookRefusal
-before-book-of-input f = firstOf-of-input (beforeBookRefusals f) (unless-of-input _ 1 (omega arith), (site-of-input (f .site), tt))
+before-book-of-input f = firstOf-of-input (beforeBookRefusals f) (unless-of-input _ 1 (omega arith), (site-of-input (f .site), (foods-in-of-input (f .foods), tt)))
 
 pub files-of-input : (f : Files) → OfInput (filesRefusal f)
 unfolding filesRefusal

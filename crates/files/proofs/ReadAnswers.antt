@@ -1,16 +1,44 @@
--- What reading a call's files answers, in the order of its refusals: a length, the site file, the book.
+-- What reading a call's files answers, in the order of its refusals: a length, the site file, the foods block, the book.
 -- Assumes nothing.
-use mathlib.Core.Path.{_≡_, sym, ap, _∙_}
+use mathlib.Core.Path.{_≡_, refl, sym, ap, _∙_}
+use mathlib.Core.Bool.{Bool, true, false}
 use mathlib.Core.List.{List}
 use Prim.Native.Nat.{ℕ}
 use Rattle.numbers.proofs.Refusals.{orElse-first, orElse-last}
+use Rattle.site.specs.declared.Scenario.{Scenario}
 use Rattle.site.specs.declared.SiteRead.{SiteRead}
+use Rattle.site.specs.Scenario.{withDiets}
 use Rattle.site.specs.Site.{siteRefusal, readSite}
 use Rattle.site.proofs.FieldsWithin.{read-refusal}
+use Rattle.foods.specs.declared.FoodsRead.{FoodsRead}
+use Rattle.foods.specs.Foods.{foodsRefusal, readFoods}
+use Rattle.foods.proofs.FiguresWithin.{read-refusal as foods-read-refusal}
+use Rattle.diet.specs.Diet.{dietsOf}
 use Rattle.book.specs.Book.{bookRefusal, bookTable}
 use Rattle.files.specs.declared.FilesRead.{FilesRead}
-use Rattle.files.specs.Files.{Files, lengthRefusal, beforeBookRefusal, filesRefusal}
-use Rattle.files.specs.Internal.{BeforeBookRead, FilesAreRead}
+use Rattle.files.specs.Files.{foodsIf, Files, lengthRefusal, foodsRefusalIn, beforeBookRefusal, filesRefusal, withFoods}
+use Rattle.files.specs.Internal.{FoodsTaken, BeforeBookRead, FilesAreRead}
+
+-- the foods block, if there is one
+module _ (foods : List ℕ) (s : Scenario) where
+  pub no-foods : {has : Bool} → has ≡ false → FoodsTaken (foodsIf has foods) s (record { refusal = 0; scenario = s })
+  no-foods e = rw e (record { refusal = refl; scenario = λ z. refl })
+
+  module _ {has : Bool} (e : has ≡ true) {read : FoodsRead} (er : read ≡ readFoods foods) where
+    its-number : read .refusal ≡ foodsRefusal foods
+    its-number = ap (λ (y : FoodsRead). y .refusal) er ∙ foods-read-refusal foods
+
+    pub refused-by-foods : (read .refusal ≡ 0 → ⊥) → FoodsTaken (foodsIf has foods) s (record { refusal = read .refusal; scenario = s })
+    refused-by-foods h = rw e (record { refusal = its-number; scenario = λ z. absurd (h z) })
+
+    pub foods-taken : read .refusal ≡ 0 → {diets : List ℕ} → diets ≡ dietsOf (read .foods) → {fed : Scenario} → fed ≡ withDiets diets s
+        → FoodsTaken (foodsIf has foods) s (record { refusal = 0; scenario = fed })
+    foods-taken passed ed ef =
+        rw e
+        (record {
+          refusal = sym passed ∙ its-number;
+          scenario = λ z. ef ∙ ap (λ (diets : List ℕ). withDiets diets s) (ed ∙ ap (λ (y : FoodsRead). dietsOf (y .foods)) er);
+        })
 
 module _ (f : Files) where
   -- before the book
@@ -19,14 +47,22 @@ module _ (f : Files) where
     unfolding beforeBookRefusal
     refused-by-length h = record { refusal = sym (rw (← el) (orElse-first lengths _ h)); scenario = λ z. absurd (h z) }
 
-    pub site-decides : lengths ≡ 0 → BeforeBookRead f (record { refusal = x .refusal; scenario = x .scenario })
-    unfolding beforeBookRefusal
-    site-decides long =
-        let its-refusal : x .refusal ≡ siteRefusal (f .site) = ap (λ (y : SiteRead). y .refusal) ex ∙ read-refusal (f .site) in
-        record {
-          refusal = sym (rw (sym el ∙ long, ← its-refusal) (orElse-last (x .refusal)));
-          scenario = λ z. ap (λ (y : SiteRead). y .scenario) ex;
-        }
+    its-refusal : x .refusal ≡ siteRefusal (f .site)
+    its-refusal = ap (λ (y : SiteRead). y .refusal) ex ∙ read-refusal (f .site)
+
+    module _ (long : lengths ≡ 0) where
+      pub refused-by-site : (x .refusal ≡ 0 → ⊥) → BeforeBookRead f (record { refusal = x .refusal; scenario = x .scenario })
+      unfolding beforeBookRefusal
+      refused-by-site h =
+          record { refusal = sym (rw (sym el ∙ long, ← its-refusal) (orElse-first (x .refusal) _ h)); scenario = λ z. absurd (h z) }
+
+      pub foods-decide : x .refusal ≡ 0 → {r : FilesRead} → FoodsTaken (f .foods) (x .scenario) r → BeforeBookRead f r
+      unfolding beforeBookRefusal
+      foods-decide passed taken =
+          record {
+            refusal = taken .refusal ∙ sym (rw (sym el ∙ long, sym its-refusal ∙ passed) (orElse-last (foodsRefusalIn (f .foods))));
+            scenario = λ z. taken .scenario z ∙ ap (λ (y : SiteRead). withFoods (f .foods) (y .scenario)) ex;
+          }
 
   -- and the book
   module _ (table : List ℕ) {before : FilesRead} (read : BeforeBookRead f before) where

@@ -1,12 +1,12 @@
-// A call's files: the site file and the rate book, read in the order of their refusals.
+// A call's files: the site file, a foods block or none, and the rate book, read in the order of their refusals.
 use block::WRONG_LENGTH;
 use book::BOOK_BYTES;
 use book::TABLE_NUMBERS;
 use site::SITE_BYTES;
 use site::Scenario;
 ghost use mathlib.Core.Path.{_≡_};
-ghost use Rattle.files.specs.Files.{lengthRefusal, filesOf};
-ghost use Rattle.files.specs.Internal.{BeforeBookRead, FilesAreRead};
+ghost use Rattle.files.specs.Files.{foodsIf, filesOf, filesIf, lengthRefusal};
+ghost use Rattle.files.specs.Internal.{FoodsTaken, BeforeBookRead, FilesAreRead};
 
 // What reading a call's files answers: a refusal, or 0 and the scenario.
 pub struct FilesRead {
@@ -27,10 +27,34 @@ pub fn length_refusal(site: &[u8], book: &[u8]) -> u32
     0
 }
 
-// What comes before the book: both lengths, and the site file. It is read before the lengths are tested, since a refused answer
-// holds a scenario too.
-fn read_before_book(site: &[u8], book: &[u8]) -> FilesRead
-    ensures { λ r. ⌜ BeforeBookRead (filesOf (now (site .entry)) (now (book .entry))) r ⌝ }
+// Takes the diets of a foods block, if there is one, into a scenario, or answers why the block is refused.
+fn take_foods(scenario: Scenario, has_foods: bool, foods: &[u8]) -> FilesRead
+    ensures { λ r. ⌜ FoodsTaken (foodsIf «has_foods» (now (foods .entry))) scenario r ⌝ }
+{
+    if has_foods {
+        let read = foods::read_foods(foods);
+        let refusal = read.refusal;
+        if refusal != 0 {
+            return FilesRead { refusal, scenario };
+        }
+        let eaten = read.foods;
+        let diets = diet::diets_of(eaten);
+        let fed = site::with_diets(scenario, diets);
+        return FilesRead {
+            refusal: 0,
+            scenario: fed,
+        };
+    }
+    FilesRead {
+        refusal: 0,
+        scenario,
+    }
+}
+
+// What comes before the book: the lengths of site file and book, the site file, and the foods block. The site file is read before the
+// lengths are tested, since a refused answer holds a scenario too.
+fn read_before_book(site: &[u8], has_foods: bool, foods: &[u8], book: &[u8]) -> FilesRead
+    ensures { λ r. ⌜ BeforeBookRead (filesIf «has_foods» (now (site .entry)) (now (foods .entry)) (now (book .entry))) r ⌝ }
 {
     let read = site::read_site(site);
     let scenario = read.scenario;
@@ -42,17 +66,26 @@ fn read_before_book(site: &[u8], book: &[u8]) -> FilesRead
         };
     }
     let of_site = read.refusal;
-    FilesRead {
-        refusal: of_site,
-        scenario,
+    if of_site != 0 {
+        return FilesRead {
+            refusal: of_site,
+            scenario,
+        };
     }
+    take_foods(scenario, has_foods, foods)
 }
 
-// Reads the site file into a scenario and the book into the table, or answers why they are refused.
-pub fn read_files(site: &[u8], book: &[u8], table: &mut [u32; TABLE_NUMBERS]) -> FilesRead
-    ensures { λ r. ⌜ FilesAreRead (filesOf (now (site .entry)) (now (book .entry))) (now (table .exit)) r ⌝ }
+// Reads the site file, with a foods block or none, into a scenario and the book into the table, or answers why they are refused.
+pub fn read_files(
+    site: &[u8],
+    has_foods: bool,
+    foods: &[u8],
+    book: &[u8],
+    table: &mut [u32; TABLE_NUMBERS],
+) -> FilesRead
+    ensures { λ r. ⌜ FilesAreRead (filesIf «has_foods» (now (site .entry)) (now (foods .entry)) (now (book .entry))) (now (table .exit)) r ⌝ }
 {
-    let before = read_before_book(site, book);
+    let before = read_before_book(site, has_foods, foods, book);
     let of_before = before.refusal;
     if of_before != 0 {
         return before;

@@ -4,18 +4,18 @@ use mathlib.Core.Path.{sym}
 use borrow.Author.Needs.{needs}
 use denote.Ref.{now}
 use Rattle.steps.specs.Steps.{stepsADay}
-use Rattle.files.specs.Files.{Files, filesOf}
+use Rattle.files.specs.Files.{Files, filesIf}
 use Rattle.engine.proofs.CallAnswers.{run-refused, places-are-months, start-long, start-decoded, run-months}
 use Rattle.engine.proofs.run.Statement.{statement}
 use Rattle.engine.proofs.run.Tie as tie
 
 -- the call's files
 abbrev files : tie.Start → Files
-files begin = filesOf (now (begin .args .site)) (now (begin .args .book))
+files begin = filesIf (begin .args .has-foods) (now (begin .args .site)) (now (begin .args .foods)) (now (begin .args .book))
 
 -- the run's beginning, by what is known after `start` has answered
 abbrev begin-of : tie.After-start → tie.Start
-begin-of c = c .before .before .before .before .before
+begin-of c = c .before .before .before .before .before .before
 
 start-requires : tie.Need-start-requires
 start-requires c κs = search needs

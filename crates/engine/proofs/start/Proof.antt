@@ -2,7 +2,7 @@
 -- Assumes nothing.
 use borrow.Author.Needs.{needs}
 use denote.Ref.{now}
-use Rattle.files.specs.Files.{filesOf}
+use Rattle.files.specs.Files.{filesIf}
 use Rattle.engine.proofs.FilesDecoded.{files-long, files-read-decoded}
 use Rattle.engine.proofs.CallAnswers.{start-refused, read-passed, start-born}
 use Rattle.engine.proofs.start.Statement.{statement}
@@ -25,8 +25,8 @@ returns c =
     let head = c .before .before in
     let read = head .before .before in
     let lengths = read .before .before in
-    let a = lengths .before .before .before .args in
-    start-refused (filesOf (now (a .site)) (now (a .book))) (a .places) _ (lengths .length-refusal .ensures) (read .read-files .ensures)
+    let a = lengths .before .before .before .before .args in
+    start-refused (filesIf (a .has-foods) (now (a .site)) (now (a .foods)) (now (a .book))) (a .places) _ (lengths .length-refusal .ensures) (read .read-files .ensures)
     (head .head-refusal .ensures) (c .before .if1 .taken) _ (c .zero-state .ensures)
 
 born-requires : tie.Need-born-requires
@@ -34,9 +34,9 @@ born-requires c κs =
     let head = c .before .before .before in
     let read = head .before .before in
     let lengths = read .before .before in
-    let a = lengths .before .before .before .args in
+    let a = lengths .before .before .before .before .args in
     let passed =
-    read-passed (filesOf (now (a .site)) (now (a .book))) (a .places) _ (lengths .length-refusal .ensures) (read .read-files .ensures)
+    read-passed (filesIf (a .has-foods) (now (a .site)) (now (a .foods)) (now (a .book))) (a .places) _ (lengths .length-refusal .ensures) (read .read-files .ensures)
     (head .head-refusal .ensures) (c .before .before .if1 .left) in
     (files-long (read .read-files .ensures) passed, files-read-decoded (read .read-files .ensures) passed)
 
@@ -45,8 +45,8 @@ returns-2 c =
     let head = c .before .before .before .before .before in
     let read = head .before .before in
     let lengths = read .before .before in
-    let a = lengths .before .before .before .args in
-    start-born (filesOf (now (a .site)) (now (a .book))) (a .places) _ (lengths .length-refusal .ensures) (read .read-files .ensures)
+    let a = lengths .before .before .before .before .args in
+    start-born (filesIf (a .has-foods) (now (a .site)) (now (a .foods)) (now (a .book))) (a .places) _ (lengths .length-refusal .ensures) (read .read-files .ensures)
     (head .head-refusal .ensures) (c .before .before .before .before .if1 .left) _ (c .before .born .ensures)
 
 pub start-spec : {M : Type 1} → statement M

@@ -1,0 +1,40 @@
+-- `files::take_foods` meets its contract: a block that is refused, its diets in the scenario, or no block.
+-- Assumes nothing.
+use denote.Ref.{now}
+use borrow.Author.Needs.{needs}
+use Rattle.foods.proofs.FiguresWithin.{read-within}
+use Rattle.files.proofs.ReadAnswers.{no-foods, refused-by-foods, foods-taken}
+use Rattle.files.proofs.take_foods.Statement.{statement}
+use Rattle.files.proofs.take_foods.Tie as tie
+
+read-foods-requires : tie.Need-read-foods-requires
+read-foods-requires c κs = search needs
+
+returns : tie.Need-returns
+returns c =
+    let read = c .before in
+    let a = read .before .before .before .args in
+    refused-by-foods (now (a .foods)) (a .scenario) (read .before .if1 .taken) (read .read-foods .ensures) (c .if2 .taken)
+
+diets-of-requires : tie.Need-diets-of-requires
+diets-of-requires c κs = read-within _ (c .before .before .read-foods .ensures) (c .before .if2 .left)
+
+with-diets-requires : tie.Need-with-diets-requires
+with-diets-requires c κs = search needs
+
+returns-2 : tie.Need-returns-2
+returns-2 c =
+    let diets = c .before in
+    let read = diets .before .before .before in
+    let a = read .before .before .before .args in
+    foods-taken (now (a .foods)) (a .scenario) (read .before .if1 .taken) (read .read-foods .ensures) (diets .before .before .if2 .left)
+    (diets .diets-of .ensures) (c .with-diets .ensures)
+
+returns-3 : tie.Need-returns-3
+returns-3 c =
+    let a = c .before .before .args in
+    no-foods (now (a .foods)) (a .scenario) (c .if1 .left)
+
+pub take-foods-spec : {M : Type 1} → statement M
+take-foods-spec =
+    tie.close (tie.spec read-foods-requires returns diets-of-requires with-diets-requires returns-2 returns-3)
