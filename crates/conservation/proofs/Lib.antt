@@ -1,5 +1,6 @@
 pub mod Bench
 pub mod Demand3
+pub mod FoodsDiet
 pub mod RunIsCalls
 pub mod StateAlone
 pub mod StepsBalance

@@ -5,10 +5,10 @@ use mathlib.Core.Path.{_≡_, refl, sym, ap, ap₂, _∙_}
 use mathlib.Core.Bool.{true}
 use mathlib.Core.List.{List, [], _∷_}
 use native.Mathlib.Omega.{arith}
-use borrow.Author.Tests.{le-leb, ltb-true, eqb-true, eq-eqb}
+use borrow.Author.Tests.{le-leb, leb-true, ltb-true, eqb-true, eq-eqb}
 use lib.ListN.{length, getD, take, drop, replicate, length-replicate, length-drop}
 use lib.Seq.{ext-getD, getD-take, getD-drop, length-take-le}
-use lib.Dec.{eqb, ltb}
+use lib.Dec.{eqb, leb, ltb}
 use Rattle.numbers.specs.Choice.{unless, every, tab}
 use Rattle.numbers.specs.Sums.{sumTo}
 use Rattle.numbers.proofs.Every.{every-at, length-tab, getD-tab, tab-same}
@@ -17,12 +17,23 @@ use Rattle.block.specs.Block.{byteAt, blockBytes, checkAt, blockAt}
 use Rattle.block.specs.Writer.{sealed, written, bodyOf}
 use Rattle.block.proofs.Laid.{body-passes}
 use Rattle.block.proofs.Sealed.{length-sealed, written-sealed}
+use Rattle.site.specs.declared.Scenario.{Scenario}
 use Rattle.site.specs.declared.SiteRead.{SiteRead}
 use Rattle.site.specs.Fields.{lastAge, ages, fieldCount, limits, withinLimits, fieldsFit}
-use Rattle.site.specs.Scenario.{scenarioOf, motherOf}
+use Rattle.site.specs.Scenario.{scenarioOf, withDiets, motherOf}
 use Rattle.site.specs.Site.{siteForm, siteRefusal, readAs, readSite}
 use Rattle.site.proofs.FieldsWithin.{read-refusal}
 use Rattle.site.proofs.ReadBack.{fields-read-back}
+use Rattle.foods.specs.declared.Foods.{Foods}
+use Rattle.foods.specs.declared.FoodsRead.{FoodsRead}
+use Rattle.foods.specs.Figures.{Sized}
+use Rattle.foods.specs.Foods.{foodsRefusal, readFoods, foodsBody}
+use Rattle.foods.specs.Foods as foods
+use Rattle.foods.proofs.FiguresWithin.{read-refusal as foods-read-refusal}
+use Rattle.foods.proofs.ReadBack.{body-passes as foods-body-passes, figures-read-back}
+use Rattle.diet.specs.Diet.{foodLead, inMeat, halfBought, homeGrown, caught, inWholeFoods, dietAt, dietsOf}
+use Rattle.diet.specs.Bench.{workedFoods}
+use Rattle.diet.proofs.BenchDiet.{worked-diet}
 use Rattle.row.specs.declared.Rates.{Rates}
 use Rattle.row.specs.declared.Row.{Row}
 use Rattle.row.specs.Row.{numbersARow, lastMonth, rowNumbers, rowFrom, rowOf, volumesFit, weightsFit, returnsFit, ratesFit, rowFits}
@@ -49,12 +60,12 @@ use Rattle.child.specs.declared.BirthAnswer.{BirthAnswer}
 use Rattle.child.specs.Birth.{newborn, newbornRefusal, acceptedBirth}
 use Rattle.child.specs.Month.{monthAfter, exposureIn, monthUptake, monthRates, monthShares, childRefusal}
 use Rattle.child.specs.Months.{monthsBy}
-use Rattle.files.specs.Files.{beforeBookRefusal, filesRefusal, scenarioIn, tableIn}
+use Rattle.files.specs.Files.{Files, lengthRefusal, beforeBookRefusal, filesRefusal, scenarioIn, tableIn}
 use Rattle.engine.specs.Birth.{birthRefusal, birthOf}
 use Rattle.engine.specs.Month.{monthRefusal, monthOf}
 use Rattle.engine.specs.Run.{startRefusal, runOf}
 use Rattle.conservation.proofs.WholeMonths.{month-refusal, month-accepted}
-use Rattle.conservation.specs.Witness.{witnessFields, witnessRow, witnessTable, witnessBlock, witnessFiles, SomethingAccepted}
+use Rattle.conservation.specs.Witness.{witnessFields, witnessRow, witnessTable, witnessBlock, witnessSite, witnessBook, witnessFiles, witnessFoods, fedFiles, SomethingAccepted}
 
 -- ---- the site file
 
@@ -77,8 +88,8 @@ zeros-long = length-replicate {A = ℕ} blockBytes 0
 site-body-long : length (bodyOf siteForm witnessFields) ≡ checkAt
 site-body-long = body-passes siteForm witnessFields (omega (arith, fields-long)) (omega arith) (omega arith) (omega (arith, fields-long)) .long
 
-site-read : readSite (witnessFiles .site) ≡ readAs witnessFields
-unfolding witnessFiles
+site-read : readSite witnessSite ≡ readAs witnessFields
+unfolding witnessSite
 site-read =
     ap readSite (sym (written-sealed (bodyOf siteForm witnessFields) zeros site-body-long zeros-long))
     ∙ fields-read-back witnessFields zeros fields-long fields-fit zeros-long
@@ -163,8 +174,8 @@ block-of-book n h =
     ∙ getD-tab bookBytes byte (blockBytes * n + k) (omega arith)
     ∙ ap₂ (λ (b i : ℕ). byteAt (witnessBlock b) i) block place)
 
-book-reads : BookReads (witnessFiles .book) witnessTable
-unfolding witnessFiles witnessBlock
+book-reads : BookReads witnessBook witnessTable
+unfolding witnessBook witnessBlock
 book-reads =
     book-read-back (tab bookBytes byte) witnessTable (λ n. zeros) book-long table-long table-small rows-fit (λ n h. zeros-long)
     (λ n h. block-of-book n h ∙ written-block n h)
@@ -174,44 +185,46 @@ book-reads =
 
 -- ---- the files
 
-site-long : length (witnessFiles .site) ≡ blockBytes
-unfolding witnessFiles
+site-long : length witnessSite ≡ blockBytes
+unfolding witnessSite
 site-long = length-sealed (bodyOf siteForm witnessFields) site-body-long
 
-all-book-long : length (witnessFiles .book) ≡ bookBytes
-unfolding witnessFiles
+all-book-long : length witnessBook ≡ bookBytes
+unfolding witnessBook
 all-book-long = book-long
 
-site-passes : siteRefusal (witnessFiles .site) ≡ 0
+site-passes : siteRefusal witnessSite ≡ 0
 unfolding readAs
-site-passes = sym (read-refusal (witnessFiles .site)) ∙ ap (λ (x : SiteRead). x .refusal) site-read
+site-passes = sym (read-refusal witnessSite) ∙ ap (λ (x : SiteRead). x .refusal) site-read
 
-files-pass : filesRefusal witnessFiles ≡ 0
-unfolding filesRefusal beforeBookRefusal unless
-files-pass =
-    rw (
-      eq-eqb (length (witnessFiles .site)) blockBytes site-long,
-      eq-eqb (length (witnessFiles .book)) bookBytes all-book-long,
-      site-passes,
-      book-reads .refusal,
-    )
-
-scenario-is : scenarioIn witnessFiles ≡ scenarioOf witnessFields
+site-scenario : readSite witnessSite .scenario ≡ scenarioOf witnessFields
 unfolding readAs
-scenario-is = ap (λ (x : SiteRead). x .scenario) site-read
+site-scenario = ap (λ (x : SiteRead). x .scenario) site-read
+
+-- ---- the foods block
+
+worked-sized : Sized workedFoods
+unfolding workedFoods
+worked-sized = record { its-grams = refl; its-leads = refl; its-shares = refl; own-leads = refl }
+
+foods-read : readFoods witnessFoods ≡ foods.readAs workedFoods
+unfolding witnessFoods
+foods-read =
+    ap readFoods (sym (written-sealed (foodsBody workedFoods) zeros (foods-body-passes workedFoods worked-sized .long) zeros-long))
+    ∙ figures-read-back workedFoods zeros worked-sized (worked-diet .shares) (worked-diet .amounts) zeros-long
+
+foods-pass : foodsRefusal witnessFoods ≡ 0
+unfolding foods.readAs
+foods-pass = sym (foods-read-refusal witnessFoods) ∙ ap (λ (x : FoodsRead). x .refusal) foods-read
+
+foods-figures : readFoods witnessFoods .foods ≡ workedFoods
+unfolding foods.readAs
+foods-figures = ap (λ (x : FoodsRead). x .foods) foods-read
 
 -- ---- birth
 
-mother-is : motherOf (scenarioOf witnessFields) ≡ 1_000
-unfolding witnessFields scenarioOf
-mother-is = refl
-
 child : State
 child = birthState row 1_000
-
-newborn-is : newborn (scenarioIn witnessFiles) (tableIn witnessFiles) ≡ child
-unfolding newborn child row
-newborn-is = rw (scenario-is, book-reads .table, table-row 0 (omega arith), mother-is)
 
 -- its burden, and that a month can follow
 burden-is : burden (child .lead) ≡ 1_880_200
@@ -222,48 +235,12 @@ child-passes : stateRefusal child ≡ 0
 unfolding child row witnessRow tab sumTo birthBlood birthTotal birthPlasma birthRedCells birthOrgan birthLead birthState isState stateRefusal unless
 child-passes = refl
 
-newborn-passes : newbornRefusal (scenarioIn witnessFiles) (tableIn witnessFiles) ≡ 0
-unfolding newbornRefusal unless
-newborn-passes = rw (newborn-is, le-leb (burden (child .lead)) burdenLimit (omega (arith, burden-is)))
+child-sound : Sound child
+child-sound = passed-sound child child-passes
 
-birth-passes : birthRefusal witnessFiles ≡ 0
-unfolding birthRefusal
-birth-passes = rw (files-pass, newborn-passes)
-
-birth-is : birthOf witnessFiles ≡ acceptedBirth child
-unfolding birthOf
-birth-is = rw (birth-passes, newborn-is)
-
--- ---- a month
-
--- the diet is the same at every age
-abbrev exposure : ℕ → Exposure
-exposure age = exposureAt (scenarioOf witnessFields) age
-
-abbrev uptakeAt : ℕ → ℕ
-uptakeAt age = dayUptake (exposure age) (row .«body_weight») (row .«body_weight»)
-
-ages-pass : every (λ (age : ℕ). eqb (intakeRefusal (exposure age)) 0) 0 ages ≡ true
-unfolding every witnessFields scenarioOf exposureAt airIntake waterIntake soilIntake dustConcentration dustIntake intakesOf refusalOf intakeRefusal unless
-ages-pass = refl
-
-ages-uptake : every (λ (age : ℕ). eqb (uptakeAt age) 2_484_000) 0 ages ≡ true
-unfolding every row witnessRow tab witnessFields scenarioOf exposureAt airIntake waterIntake soilIntake dustConcentration dustIntake intakesOf
-    sumTo percentOf saturationOf absorbable absorbableTotal passiveUptake activePart activeUptake mediumUptake airUptake dayUptake
-ages-uptake = refl
-
-module _ (m : ℕ) (most : m ≤ lastMonth) where
-  age-most : ageOf m ≤ lastAge
-  age-most = age-law m most
-
-  intakes-pass : intakeRefusal (exposureIn (scenarioOf witnessFields) m) ≡ 0
-  intakes-pass = eqb-true _ 0 (every-at (λ (age : ℕ). eqb (intakeRefusal (exposure age)) 0) 0 ages ages-pass (ageOf m) (omega arith) (omega (arith, age-most)))
-
-  uptake-is : monthUptake (scenarioOf witnessFields) witnessTable m ≡ 2_484_000
-  unfolding monthUptake row
-  uptake-is =
-      ap₂ (λ (w w24 : Row). dayUptake (exposureIn (scenarioOf witnessFields) m) (w .«body_weight») (w24 .«body_weight»)) (table-row m most) (table-row 24 (omega arith))
-      ∙ eqb-true _ 2_484_000 (every-at (λ (age : ℕ). eqb (uptakeAt age) 2_484_000) 0 ages ages-uptake (ageOf m) (omega arith) (omega (arith, age-most)))
+first-month : child .month ≡ 0
+unfolding child birthState
+first-month = refl
 
 -- steps whose uptakes fit beside the burden are not refused
 module _ (rates : State → Rates) (limits : (b : State) → RateLimits (rates b)) where
@@ -274,70 +251,178 @@ module _ (rates : State → Rates) (limits : (b : State) → RateLimits (rates b
       let kept = step-conserves (rates a) a u (limits a) in
       rw (le-leb (burden (a .lead) + u) burdenLimit (omega arith)) (steps-pass (next (rates a) a u) us (omega arith))
 
--- what a month brings: thirty days of T
+-- T of an age, by the book's row
+abbrev uptakeAt : Scenario → ℕ → ℕ
+uptakeAt scenario age = dayUptake (exposureAt scenario age) (row .«body_weight») (row .«body_weight»)
+
+-- what a day and a month bring at most: T of the diet without foods
+abbrev dayBrings : ℕ
+dayBrings = 2_484_000
+
 abbrev monthBrings : ℕ
-monthBrings = 74_520_000
+monthBrings = daysAMonth * dayBrings
 
--- a month of a sound child with room for what it brings
-module _ (a : State) (sound : Sound a) (before : a .month < lastMonth) (room : burden (a .lead) + monthBrings ≤ burdenLimit) where
-  month-most : monthAfter a ≤ lastMonth
-  month-most = omega arith
+-- what is computed of a scenario for each age
+record Eats (scenario : Scenario) : Type 0 where
+  pub mother : motherOf scenario ≡ 1_000
+  pub intakes : every (λ (age : ℕ). eqb (intakeRefusal (exposureAt scenario age)) 0) 0 ages ≡ true
+  pub uptakes : every (λ (age : ℕ). leb (uptakeAt scenario age) dayBrings) 0 ages ≡ true
 
-  month-steps-pass : stepsRefusal (monthRates witnessTable (monthAfter a)) a (monthShares stepsADay (scenarioOf witnessFields) witnessTable (monthAfter a)) ≡ 0
-  unfolding monthShares
-  month-steps-pass =
-      let limits = row-within (rowOf witnessTable (monthAfter a)) (rows-fit (monthAfter a) month-most) in
-      let total = days-total stepsADay (monthUptake (scenarioOf witnessFields) witnessTable (monthAfter a)) (omega arith) daysAMonth in
-      steps-pass (monthRates witnessTable (monthAfter a)) (λ b. limits .rates) a _ (omega (arith, uptake-is (monthAfter a) month-most))
+-- T of a month is that of its age
+uptake-of-age : (scenario : Scenario) (m : ℕ) → m ≤ lastMonth → monthUptake scenario witnessTable m ≡ uptakeAt scenario (ageOf m)
+unfolding monthUptake row
+uptake-of-age scenario m most =
+    ap₂ (λ (w w24 : Row). dayUptake (exposureIn scenario m) (w .«body_weight») (w24 .«body_weight»)) (table-row m most) (table-row 24 (omega arith))
 
-  child-month-passes : childRefusal stepsADay a (scenarioOf witnessFields) witnessTable ≡ 0
-  unfolding childRefusal
-  child-month-passes = rw (state-passes sound before, intakes-pass (monthAfter a) month-most, month-steps-pass)
+-- ---- birth, months and run of files that are read as such a scenario and the table
 
-  month-passes : monthRefusal stepsADay a witnessFiles ≡ 0
-  unfolding monthRefusal
-  month-passes = rw (files-pass, scenario-is, book-reads .table, child-month-passes)
+record Reads (f : Files) (scenario : Scenario) : Type 0 where
+  pub lengths : lengthRefusal f ≡ 0
+  pub files : filesRefusal f ≡ 0
+  pub scenario-is : scenarioIn f ≡ scenario
+  pub table-is : tableIn f ≡ witnessTable
 
--- ---- the run
+module _ {f : Files} {scenario : Scenario} (reads : Reads f scenario) (eats : Eats scenario) where
+  newborn-is : newborn (scenarioIn f) (tableIn f) ≡ child
+  unfolding newborn child row
+  newborn-is = rw (reads .scenario-is, reads .table-is, table-row 0 (omega arith), eats .mother)
 
-uptake-of-files : (m : ℕ) → m ≤ lastMonth → monthUptake (scenarioIn witnessFiles) (tableIn witnessFiles) m ≡ 2_484_000
-uptake-of-files m most = rw (scenario-is, book-reads .table) (uptake-is m most)
+  newborn-passes : newbornRefusal (scenarioIn f) (tableIn f) ≡ 0
+  unfolding newbornRefusal unless
+  newborn-passes = rw (newborn-is, le-leb (burden (child .lead)) burdenLimit (omega (arith, burden-is)))
 
-months-pass : (n : ℕ) (a : State) → Sound a → a .month + n ≤ lastMonth → burden (a .lead) + n * monthBrings ≤ burdenLimit
-    → monthsBy (λ (b : State). monthOf stepsADay b witnessFiles) n a .refusal ≡ 0
-unfolding monthsBy
-months-pass zero a sound h room = refl
-months-pass (suc n) a sound h room =
-    let passed = month-passes a sound (omega arith) (omega arith) in
-    let done = month-accepted (λ f. stepsADay) (λ f. omega arith) a witnessFiles passed in
-    let brought = uptake-of-files (monthAfter a) (omega arith) in
-    rw (month-refusal stepsADay a witnessFiles ∙ passed)
-    (months-pass n (monthOf stepsADay a witnessFiles .state) (done .sound) (omega (arith, done .whole .number)) (omega (arith, done .balance .lead, brought)))
+  birth-passes : birthRefusal f ≡ 0
+  unfolding birthRefusal
+  birth-passes = rw (reads .files, newborn-passes)
 
-child-sound : Sound child
-child-sound = passed-sound child child-passes
+  birth-is : birthOf f ≡ acceptedBirth child
+  unfolding birthOf
+  birth-is = rw (birth-passes, newborn-is)
 
-first-month : child .month ≡ 0
-unfolding child birthState
-first-month = refl
+  module _ (m : ℕ) (most : m ≤ lastMonth) where
+    intakes-pass : intakeRefusal (exposureIn scenario m) ≡ 0
+    intakes-pass =
+        eqb-true _ 0 (every-at (λ (age : ℕ). eqb (intakeRefusal (exposureAt scenario age)) 0) 0 ages (eats .intakes) (ageOf m) (omega arith) (omega (arith, age-law m most)))
 
-starts : startRefusal witnessFiles lastMonth ≡ 0
-unfolding startRefusal unless
-starts = rw (eq-eqb (length (witnessFiles .site)) blockBytes site-long, eq-eqb (length (witnessFiles .book)) bookBytes all-book-long, birth-passes)
+    uptake-most : monthUptake scenario witnessTable m ≤ dayBrings
+    uptake-most =
+        rw (uptake-of-age scenario m most)
+        (leb-true _ dayBrings (every-at (λ (age : ℕ). leb (uptakeAt scenario age) dayBrings) 0 ages (eats .uptakes) (ageOf m) (omega arith) (omega (arith, age-law m most))))
 
-run-passes : runOf stepsADay witnessFiles lastMonth .refusal ≡ 0
-unfolding runOf
-run-passes = rw (starts, birth-is) (months-pass lastMonth child child-sound (omega (arith, first-month)) (omega (arith, burden-is)))
+    uptake-of-files : monthUptake (scenarioIn f) (tableIn f) m ≤ dayBrings
+    uptake-of-files = rw (reads .scenario-is, reads .table-is) uptake-most
+
+  -- a month of a sound child with room for what it brings
+  module _ (a : State) (sound : Sound a) (before : a .month < lastMonth) (room : burden (a .lead) + monthBrings ≤ burdenLimit) where
+    month-most : monthAfter a ≤ lastMonth
+    month-most = omega arith
+
+    month-steps-pass : stepsRefusal (monthRates witnessTable (monthAfter a)) a (monthShares stepsADay scenario witnessTable (monthAfter a)) ≡ 0
+    unfolding monthShares
+    month-steps-pass =
+        let limits = row-within (rowOf witnessTable (monthAfter a)) (rows-fit (monthAfter a) month-most) in
+        let total = days-total stepsADay (monthUptake scenario witnessTable (monthAfter a)) (omega arith) daysAMonth in
+        steps-pass (monthRates witnessTable (monthAfter a)) (λ b. limits .rates) a _ (omega (arith, uptake-most (monthAfter a) month-most))
+
+    child-month-passes : childRefusal stepsADay a scenario witnessTable ≡ 0
+    unfolding childRefusal
+    child-month-passes = rw (state-passes sound before, intakes-pass (monthAfter a) month-most, month-steps-pass)
+
+    month-passes : monthRefusal stepsADay a f ≡ 0
+    unfolding monthRefusal
+    month-passes = rw (reads .files, reads .scenario-is, reads .table-is, child-month-passes)
+
+  first-month-passes : monthOf stepsADay (birthOf f .state) f .refusal ≡ 0
+  first-month-passes =
+      rw birth-is (month-refusal stepsADay child f ∙ month-passes child child-sound (omega (arith, first-month)) (omega (arith, burden-is)))
+
+  months-pass : (n : ℕ) (a : State) → Sound a → a .month + n ≤ lastMonth → burden (a .lead) + n * monthBrings ≤ burdenLimit
+      → monthsBy (λ (b : State). monthOf stepsADay b f) n a .refusal ≡ 0
+  unfolding monthsBy
+  months-pass zero a sound h room = refl
+  months-pass (suc n) a sound h room =
+      let passed = month-passes a sound (omega arith) (omega arith) in
+      let done = month-accepted (λ g. stepsADay) (λ g. omega arith) a f passed in
+      let brought = uptake-of-files (monthAfter a) (omega arith) in
+      rw (month-refusal stepsADay a f ∙ passed)
+      (months-pass n (monthOf stepsADay a f .state) (done .sound) (omega (arith, done .whole .number)) (omega (arith, done .balance .lead, brought)))
+
+  starts : startRefusal f lastMonth ≡ 0
+  unfolding startRefusal unless
+  starts = rw (reads .lengths, birth-passes)
+
+  run-passes : runOf stepsADay f lastMonth .refusal ≡ 0
+  unfolding runOf
+  run-passes = rw (starts, birth-is) (months-pass lastMonth child child-sound (omega (arith, first-month)) (omega (arith, burden-is)))
+
+-- ---- without foods, and with them
+
+both-long : lengthRefusal witnessFiles ≡ 0
+unfolding unless
+both-long = rw (eq-eqb (length witnessSite) blockBytes site-long, eq-eqb (length witnessBook) bookBytes all-book-long)
+
+reads : Reads witnessFiles (scenarioOf witnessFields)
+unfolding filesRefusal beforeBookRefusal
+reads = record { lengths = both-long; files = rw (both-long, site-passes, book-reads .refusal); scenario-is = site-scenario; table-is = book-reads .table }
+
+eats : Eats (scenarioOf witnessFields)
+unfolding every row witnessRow tab witnessFields scenarioOf exposureAt airIntake waterIntake soilIntake dustConcentration dustIntake intakesOf refusalOf intakeRefusal unless
+    sumTo percentOf saturationOf absorbable absorbableTotal passiveUptake activePart activeUptake mediumUptake airUptake dayUptake
+eats = record { mother = refl; intakes = refl; uptakes = refl }
+
+uptake-is : uptakeAt (scenarioOf witnessFields) 0 ≡ dayBrings
+unfolding row witnessRow tab witnessFields scenarioOf exposureAt airIntake waterIntake soilIntake dustConcentration dustIntake intakesOf
+    sumTo percentOf saturationOf absorbable absorbableTotal passiveUptake activePart activeUptake mediumUptake airUptake dayUptake
+uptake-is = refl
+
+-- the diets of the worked foods, and the scenario with them
+diets : List ℕ
+diets = 11_085 ∷ replicate 6 0
+
+diets-are : dietsOf workedFoods ≡ diets
+unfolding tab workedFoods foodLead inMeat halfBought homeGrown caught inWholeFoods dietAt dietsOf diets
+diets-are = refl
+
+abbrev fed : Scenario
+fed = withDiets diets (scenarioOf witnessFields)
+
+reads-fed : Reads fedFiles fed
+unfolding filesRefusal beforeBookRefusal
+reads-fed =
+    record {
+      lengths = both-long;
+      files = rw (both-long, site-passes, foods-pass, book-reads .refusal);
+      scenario-is = ap₂ withDiets (ap dietsOf foods-figures ∙ diets-are) site-scenario;
+      table-is = book-reads .table;
+    }
+
+eats-fed : Eats fed
+unfolding every row witnessRow tab witnessFields scenarioOf exposureAt airIntake waterIntake soilIntake dustConcentration dustIntake intakesOf refusalOf intakeRefusal unless
+    sumTo percentOf saturationOf absorbable absorbableTotal passiveUptake activePart activeUptake mediumUptake airUptake dayUptake diets
+eats-fed = record { mother = refl; intakes = refl; uptakes = refl }
+
+uptake-fed : uptakeAt fed 0 ≡ 11_080
+unfolding row witnessRow tab witnessFields scenarioOf exposureAt airIntake waterIntake soilIntake dustConcentration dustIntake intakesOf
+    sumTo percentOf saturationOf absorbable absorbableTotal passiveUptake activePart activeUptake mediumUptake airUptake dayUptake diets
+uptake-fed = refl
+
+-- T of the first month
+first-uptake : (f : Files) (scenario : Scenario) → Reads f scenario → monthUptake (scenarioIn f) (tableIn f) 1 ≡ uptakeAt scenario 0
+unfolding ageOf
+first-uptake f scenario r = rw (r .scenario-is, r .table-is) (uptake-of-age scenario 1 (omega arith))
 
 pub something-accepted : SomethingAccepted
 something-accepted =
     record {
       site = site-passes;
       book = book-reads .refusal;
-      birth = ap (λ (x : BirthAnswer). x .refusal) birth-is;
-      month =
-          rw birth-is
-          (month-refusal stepsADay child witnessFiles ∙ month-passes child child-sound (omega (arith, first-month)) (omega (arith, burden-is)));
-      uptake = uptake-of-files 1 (omega arith);
-      run = run-passes;
+      birth = ap (λ (x : BirthAnswer). x .refusal) (birth-is reads eats);
+      month = first-month-passes reads eats;
+      uptake = first-uptake witnessFiles _ reads ∙ uptake-is;
+      run = run-passes reads eats;
+      foods = foods-pass;
+      fed-birth = ap (λ (x : BirthAnswer). x .refusal) (birth-is reads-fed eats-fed);
+      fed-month = first-month-passes reads-fed eats-fed;
+      fed-uptake = first-uptake fedFiles fed reads-fed ∙ uptake-fed;
+      fed-run = run-passes reads-fed eats-fed;
     }

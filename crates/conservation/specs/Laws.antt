@@ -1,12 +1,21 @@
--- Laws of the calls beside demand 3: what birth and the month call answer is a state, and the run is birth and month calls.
+-- Laws of the calls beside demand 3: what birth and the month call answer is a state, the run is birth and month calls, and what a foods block changes.
 -- Assumes nothing.
-use Prim.Native.Nat.{ℕ, _<_}
+use Prim.Native.Nat.{ℕ, _≤_, _<_}
 use mathlib.Core.Path.{_≡_}
 use mathlib.Core.List.{List, [], _∷_}
 use lib.ListN.{length, replicate}
+use Rattle.numbers.specs.Choice.{firstOf}
 use Rattle.numbers.specs.Lists.{Each}
+use Rattle.site.specs.Fields.{lastAge, byAge, dietGroup}
+use Rattle.site.specs.Scenario.{withDiets}
+use Rattle.site.specs.Site.{siteFields, siteRefusal, readSite}
+use Rattle.foods.specs.Foods.{figuresOf, foodsRefusal}
+use Rattle.diet.specs.Diet.{dietAt, dietsOf}
+use Rattle.book.specs.Book.{bookRefusal}
+use Rattle.exposure.specs.Exposure.{exposureAt}
+use Rattle.intake.specs.Laws.{FourPassed, RefusalLaw}
 use Rattle.kinetics.specs.declared.State.{State}
-use Rattle.files.specs.Files.{Files}
+use Rattle.files.specs.Files.{Files, filesOf, filesWith, lengthRefusal, filesRefusal, scenarioIn}
 use Rattle.row.specs.Row.{lastMonth}
 use Rattle.child.specs.Months.{MonthsRun}
 use Rattle.engine.specs.Birth.{birthOf}
@@ -39,3 +48,25 @@ abbrev pub RunLaws : Type 0
 RunLaws =
     (steps : Files → ℕ) → ((f : Files) → 0 < steps f) → (f : Files) → startRefusal f lastMonth ≡ 0
     → RunLaw (birthOf f .state) (acceptedMonths steps (birthOf f .state) (replicate lastMonth f)) (runOf (steps f) f lastMonth)
+
+-- without a foods block every answer is as it was before there were any: its files are refused as the lengths, the site file and the book say,
+-- its scenario and its diet are the site file's, and 9 looks at air, water, soil and dust alone
+pub record WithoutFoods (site book : List ℕ) : Type 0 where
+  pub refusal : filesRefusal (filesOf site book) ≡ firstOf (lengthRefusal (filesOf site book) ∷ siteRefusal site ∷ bookRefusal book ∷ [])
+  pub scenario : scenarioIn (filesOf site book) ≡ readSite site .scenario
+  pub diet : siteRefusal site ≡ 0 → (age : ℕ) → age ≤ lastAge → exposureAt (readSite site .scenario) age .diet ≡ byAge (siteFields site) dietGroup age
+  pub nine :
+      siteRefusal site ≡ 0 → (age : ℕ) → age ≤ lastAge
+      → RefusalLaw (exposureAt (readSite site .scenario) age) (FourPassed (exposureAt (readSite site .scenario) age))
+
+-- with an accepted one all is as without it but the diets, and they are E-5's
+pub record WithFoods (site foods book : List ℕ) : Type 0 where
+  pub refusal : filesRefusal (filesWith site foods book) ≡ filesRefusal (filesOf site book)
+  pub scenario : scenarioIn (filesWith site foods book) ≡ withDiets (dietsOf (figuresOf foods)) (scenarioIn (filesOf site book))
+  pub diet : (age : ℕ) → age ≤ lastAge → exposureAt (scenarioIn (filesWith site foods book)) age .diet ≡ dietAt (figuresOf foods) age
+
+abbrev pub FoodsLaw : Type 0
+FoodsLaw = (site foods book : List ℕ) → foodsRefusal foods ≡ 0 → WithFoods site foods book
+
+abbrev pub NoFoodsLaw : Type 0
+NoFoodsLaw = (site book : List ℕ) → WithoutFoods site book

@@ -9,12 +9,14 @@ use Rattle.block.specs.Block.{byteAt, blockBytes}
 use Rattle.block.specs.Writer.{sealed, bodyOf}
 use Rattle.site.specs.Fields.{ages}
 use Rattle.site.specs.Site.{siteForm, siteRefusal}
+use Rattle.foods.specs.Foods.{foodsRefusal, foodsBody}
+use Rattle.diet.specs.Bench.{workedFoods}
 use Rattle.row.specs.Row.{unit, numbersARow, lastMonth}
 use Rattle.book.specs.Book.{bookBytes, tableNumbers, bookForm, bookRefusal}
 use Rattle.book.specs.Laws.{blockPart}
 use Rattle.steps.specs.Steps.{stepsADay}
 use Rattle.child.specs.Month.{monthUptake}
-use Rattle.files.specs.Files.{Files, filesOf, scenarioIn, tableIn}
+use Rattle.files.specs.Files.{Files, filesOf, filesWith, scenarioIn, tableIn}
 use Rattle.engine.specs.Birth.{birthOf}
 use Rattle.engine.specs.Month.{monthOf}
 use Rattle.engine.specs.Run.{runOf}
@@ -62,16 +64,32 @@ witnessTable = tab tableNumbers (λ (j : ℕ). getD witnessRow (j % numbersARow)
 unfoldable pub witnessBlock : ℕ → List ℕ
 witnessBlock n = sealed (bodyOf (bookForm n) (blockPart witnessTable n))
 
-unfoldable pub witnessFiles : Files
-witnessFiles =
-    filesOf (sealed (bodyOf siteForm witnessFields))
-    (tab bookBytes (λ (j : ℕ). byteAt (witnessBlock (j / blockBytes)) (j % blockBytes)))
+unfoldable pub witnessSite : List ℕ
+witnessSite = sealed (bodyOf siteForm witnessFields)
 
--- they are accepted, by the readers, at birth, in the first month, whose T is not 0, and in a run of 84 months
+unfoldable pub witnessBook : List ℕ
+witnessBook = tab bookBytes (λ (j : ℕ). byteAt (witnessBlock (j / blockBytes)) (j % blockBytes))
+
+abbrev pub witnessFiles : Files
+witnessFiles = filesOf witnessSite witnessBook
+
+-- and with the foods of the worked diet, 11,085 pg a day at age 0
+unfoldable pub witnessFoods : List ℕ
+witnessFoods = sealed (foodsBody workedFoods)
+
+abbrev pub fedFiles : Files
+fedFiles = filesWith witnessSite witnessFoods witnessBook
+
+-- they are accepted, by the readers, at birth, in the first month, whose T is not 0, and in a run of 84 months; with the foods too
 pub record SomethingAccepted : Type 0 where
-  pub site : siteRefusal (witnessFiles .site) ≡ 0
-  pub book : bookRefusal (witnessFiles .book) ≡ 0
+  pub site : siteRefusal witnessSite ≡ 0
+  pub book : bookRefusal witnessBook ≡ 0
   pub birth : birthOf witnessFiles .refusal ≡ 0
   pub month : monthOf stepsADay (birthOf witnessFiles .state) witnessFiles .refusal ≡ 0
   pub uptake : monthUptake (scenarioIn witnessFiles) (tableIn witnessFiles) 1 ≡ 2_484_000
   pub run : runOf stepsADay witnessFiles lastMonth .refusal ≡ 0
+  pub foods : foodsRefusal witnessFoods ≡ 0
+  pub fed-birth : birthOf fedFiles .refusal ≡ 0
+  pub fed-month : monthOf stepsADay (birthOf fedFiles .state) fedFiles .refusal ≡ 0
+  pub fed-uptake : monthUptake (scenarioIn fedFiles) (tableIn fedFiles) 1 ≡ 11_080
+  pub fed-run : runOf stepsADay fedFiles lastMonth .refusal ≡ 0

@@ -3,6 +3,10 @@
 use Rattle.site.proofs.FieldsWithin as site
 use Rattle.site.proofs.ReadBack as site-read
 use Rattle.exposure.proofs.ExposureWithin as exposure
+use Rattle.foods.proofs.FiguresWithin as foods
+use Rattle.foods.proofs.ReadBack as foods-read
+use Rattle.diet.proofs.DietBounds as diet
+use Rattle.diet.proofs.BenchDiet as worked
 use Rattle.row.proofs.RowWithin as row
 use Rattle.book.proofs.RowsWithin as book
 use Rattle.book.proofs.ReadBack as book-read
@@ -14,6 +18,7 @@ use Rattle.blood.proofs.FigureFits as figure
 use Rattle.steps.proofs.ShareSum as shares
 use Rattle.conservation.proofs.Bench as bench
 use Rattle.conservation.proofs.Demand3 as demand3
+use Rattle.conservation.proofs.FoodsDiet as fed
 use Rattle.conservation.proofs.RunIsCalls as run
 use Rattle.conservation.proofs.Witness as witness
 use Rattle.jurengate.proofs.Words as words
@@ -27,14 +32,21 @@ pub delivery : Delivery
 delivery =
     record {
       exposure-within = exposure.exposure-accepted;
+      diet-within = exposure.diet-accepted;
       mother-within = site.mother-accepted;
+      foods-within = foods.foods-within;
+      foods-diet-within = diet.diet-within;
       row-within = row.row-within;
       rows-within = book.rows-within;
-      nine = intake.refusal-law;
+      nine = intake.nine-law;
+      nine-of-four = intake.four-alone;
+      without-foods = fed.without-foods;
+      with-foods = fed.with-foods;
       never-20 = demand3.state-law;
       run-is-calls = run.run-law;
       something-accepted = witness.something-accepted;
       bench-figures = bench.bench-figures;
+      worked-diet = worked.worked-diet;
       age = uptake.age-law;
       saturation = uptake.saturation-law;
       media = uptake.medium-laws;
@@ -46,6 +58,9 @@ delivery =
       site-right-check = site.right-check;
       site-body = site-read.body-read-back;
       site-fields = site-read.fields-read-back;
+      foods-right-check = foods.right-check;
+      foods-body = foods-read.body-read-back;
+      foods-figures = foods-read.figures-read-back;
       book-right-checks = book.right-checks;
       book-body = book-read.body-read-back;
       book-numbers = book-read.numbers-read-back;

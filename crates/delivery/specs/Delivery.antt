@@ -5,6 +5,9 @@ use Prim.Native.Nat.{ℕ}
 use Rattle.site.specs.Laws as site
 use Rattle.exposure.specs.declared.Exposure.{Exposure}
 use Rattle.exposure.specs.Laws as exposure
+use Rattle.foods.specs.Laws as foods
+use Rattle.diet.specs.Laws as diet
+use Rattle.diet.specs.Bench as worked
 use Rattle.row.specs.Laws as row
 use Rattle.book.specs.Laws as book
 use Rattle.intake.specs.Laws as intake
@@ -23,21 +26,30 @@ use Rattle.printout.specs.Bench as lines
 
 pub record Delivery : Type 0 where
   -- DEMAND 1. A site file, rate book or child's state of any length and content is either run or refused with the exact number
-  -- what passes is within its limits: the exposures, the mother's blood lead, each row
+  -- what passes is within its limits: the exposures, the diet, the mother's blood lead, foods, each row
   pub exposure-within : exposure.ExposureWithin
+  pub diet-within : exposure.DietWithin
   pub mother-within : site.MotherWithin
+  pub foods-within : foods.FoodsWithin
+  pub foods-diet-within : diet.DietWithin
   pub row-within : row.RowWithin
   pub rows-within : book.RowsWithin
-  -- 9 if and only if an air, water, soil or dust intake is over 10^9
-  pub nine : (e : Exposure) → intake.RefusalLaw e
+  -- 9 if and only if an air, water, soil or dust intake or a diet is over 10^9; with a diet within it, the four alone
+  pub nine : intake.NineLaw
+  pub nine-of-four : intake.FourAlone
+  -- without a foods block every answer is as it was; with one only the diet is another, E-5's
+  pub without-foods : calls.NoFoodsLaw
+  pub with-foods : calls.FoodsLaw
   -- after an accepted birth never 20; a run is birth and month calls, and is never refused with 20 or 21
   pub never-20 : calls.StateLaw
   pub run-is-calls : calls.RunLaws
-  -- something is accepted: some files, their birth, their first month, with T not 0, and their run
+  -- something is accepted: some files, their birth, their first month, with T not 0, and their run; with foods too
   pub something-accepted : witness.SomethingAccepted
   -- DEMAND 2. Intake, uptake, birth, every step and the blood figure equal the equations, rounding included
   -- the bench table as a whole
   pub bench-figures : bench.BenchFigures
+  -- a worked diet, food by food
+  pub worked-diet : worked.WorkedDiet
   -- a month's age is one of the site file's; SAT+A is never 0; nothing is taken up that was not taken in; T is at most 6 × 10^9
   pub age : uptake.AgeLaw
   pub saturation : (e : Exposure) (weight weight24 : ℕ) → uptake.SaturationLaw e weight weight24
@@ -53,6 +65,9 @@ pub record Delivery : Type 0 where
   pub site-right-check : site.RightCheck
   pub site-body : site.BodyReadBack
   pub site-fields : site.FieldsReadBack
+  pub foods-right-check : foods.RightCheck
+  pub foods-body : foods.BodyReadBack
+  pub foods-figures : foods.FiguresReadBack
   pub book-right-checks : book.RightChecks
   pub book-body : book.BodyReadBack
   pub book-numbers : book.NumbersReadBack

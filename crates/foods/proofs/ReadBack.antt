@@ -73,7 +73,7 @@ module _ (f : Foods) (sized : Sized f) where
       (bytes-append (layout (f .leads)) _ (bytes-layout (f .leads))
       (bytes-append (layout (f .shares)) _ (bytes-layout (f .shares)) (bytes-layout (f .«own_leads»))))
 
-  body-passes : BodyPasses (foodsBody f) foodsForm
+  pub body-passes : BodyPasses (foodsBody f) foodsForm
   body-passes =
       rw by-laid (laid-passes foodsForm laid (omega (arith, length-laid)) bytes-laid (omega arith) (omega arith) (omega (arith, length-laid)))
 

@@ -26,7 +26,7 @@ pub fn prepare(site: &[u8], book: &[u8]) -> Prepared
     ensures { λ r. ⌜ r ≡ preparedOf (filesOf (now (site .entry)) (now (book .entry))) ⌝ }
 {
     let mut blood = [0u32; MONTHS];
-    let answer = engine::run(site, book, &mut blood);
+    let answer = engine::run(site, false, &site[..0], book, &mut blood);
     Prepared {
         refusal: answer.refusal,
         months: answer.months,

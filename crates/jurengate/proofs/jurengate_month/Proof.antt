@@ -1,35 +1,14 @@
--- `jurengate::jurengate_month` meets its contract: what `engine::month` answers for the state of the words.
+-- `jurengate::jurengate_month` meets its contract: `month_into` without a foods block.
 -- Assumes nothing.
-use mathlib.Core.Path.{ap, _∙_}
-use denote.Ref.{now}
-use Rattle.kinetics.specs.declared.State.{State}
-use Rattle.child.specs.declared.MonthAnswer.{MonthAnswer}
-use Rattle.steps.specs.Steps.{stepsADay}
-use Rattle.engine.specs.Month.{monthOf}
-use Rattle.files.specs.Files.{filesOf}
-use Rattle.jurengate.specs.Words.{wordsOf}
 use borrow.Author.Needs.{needs}
 use Rattle.jurengate.proofs.jurengate_month.Statement.{statement}
 use Rattle.jurengate.proofs.jurengate_month.Tie as tie
 
-state-of-requires : tie.Need-state-of-requires
-state-of-requires c κs = search needs
-
-month-requires : tie.Need-month-requires
-month-requires c κs = search needs
-
-words-of-requires : tie.Need-words-of-requires
-words-of-requires c κs = search needs
+month-into-requires : tie.Need-month-into-requires
+month-into-requires c κs = search needs
 
 returns : tie.Need-returns
-returns c =
-    let m = c .before .before in
-    let a = m .before .before .before .before .before .args in
-    let e = m .month .ensures ∙ ap (λ (b : State). monthOf stepsADay b (filesOf (now (a .site)) (now (a .book)))) (m .before .state-of .ensures) in (
-      ap (λ (x : MonthAnswer). x .refusal) e,
-      (c .words-of .ensures ∙ ap (λ (x : MonthAnswer). wordsOf (x .state)) e, ap (λ (x : MonthAnswer). x .blood) e),
-    )
+returns c = c .month-into .ensures
 
 pub jurengate-month-spec : {M : Type 1} → statement M
-jurengate-month-spec =
-    tie.close (tie.spec state-of-requires month-requires words-of-requires returns)
+jurengate-month-spec = tie.close (tie.spec month-into-requires returns)

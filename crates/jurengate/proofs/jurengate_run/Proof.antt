@@ -1,27 +1,17 @@
--- `jurengate::jurengate_run` meets its contract: what `engine::run` answers and leaves in the list.
+-- `jurengate::jurengate_run` meets its contract: `run_into` without a foods block.
 -- Assumes nothing.
-use mathlib.Core.Path.{ap, _∙_}
-use Rattle.child.specs.declared.RunAnswer.{RunAnswer}
-use Rattle.jurengate.specs.Words.{wordsOf}
 use borrow.Author.Needs.{needs}
 use Rattle.jurengate.proofs.jurengate_run.Statement.{statement}
 use Rattle.jurengate.proofs.jurengate_run.Tie as tie
 
-run-requires : tie.Need-run-requires
-run-requires c κs = search needs
-
-words-of-requires : tie.Need-words-of-requires
-words-of-requires c κs = search needs
+run-into-requires : tie.Need-run-into-requires
+run-into-requires c κs = search needs
 
 same-length : tie.Need-same-length
 same-length c = search needs
 
 returns : tie.Need-returns
-returns c =
-    let r = c .before .before .before .before .run .ensures in (
-      ap (λ (x : RunAnswer). x .refusal) (r .0),
-      (r .1, (c .words-of .ensures ∙ ap (λ (x : RunAnswer). wordsOf (x .state)) (r .0), ap (λ (x : RunAnswer). x .months) (r .0))),
-    )
+returns c = c .before .before .run-into .ensures
 
 pub jurengate-run-spec : {M : Type 1} → statement M
-jurengate-run-spec = tie.close (tie.spec run-requires words-of-requires same-length returns)
+jurengate-run-spec = tie.close (tie.spec run-into-requires same-length returns)

@@ -1,0 +1,56 @@
+-- Without a foods block nothing has changed; with an accepted one the diet is E-5's, and nothing else is another.
+-- Assumes nothing.
+use Prim.Native.Nat.{ℕ, zero, suc, _≤_}
+use mathlib.Core.Path.{_≡_, refl, sym, ap, _∙_}
+use mathlib.Core.List.{List, [], _∷_}
+use native.Mathlib.Omega.{arith}
+use Rattle.numbers.specs.Choice.{orElse}
+use Rattle.numbers.proofs.Refusals.{orElse-assoc, orElse-last}
+use Rattle.site.specs.Fields.{lastAge, at, byAge, dietGroup}
+use Rattle.site.specs.Scenario.{dietsIn, scenarioOf, withDiets}
+use Rattle.site.specs.Site.{siteFields, siteRefusal, readSite}
+use Rattle.site.proofs.FieldsWithin.{accepted-scenario}
+use Rattle.foods.specs.declared.Foods.{Foods}
+use Rattle.foods.specs.Foods.{figuresOf, foodsRefusal}
+use Rattle.foods.proofs.FiguresWithin.{accepted-figures}
+use Rattle.diet.specs.Diet.{dietsOf}
+use Rattle.diet.proofs.DietBounds.{diet-of-age}
+use Rattle.book.specs.Book.{bookRefusal}
+use Rattle.exposure.specs.Exposure.{exposureAt}
+use Rattle.exposure.proofs.ExposureWithin.{diet-accepted}
+use Rattle.intake.proofs.Refusal9.{four-alone}
+use Rattle.files.specs.Files.{filesOf, filesWith, lengthRefusal, beforeBookRefusal, filesRefusal, scenarioIn}
+use Rattle.conservation.specs.Laws.{WithoutFoods, WithFoods, FoodsLaw, NoFoodsLaw}
+
+-- one number for each age
+diet-in : (fields : List ℕ) (age : ℕ) → age ≤ lastAge → at (dietsIn fields) age ≡ byAge fields dietGroup age
+diet-in fields zero h = refl
+diet-in fields (suc zero) h = refl
+diet-in fields (suc (suc zero)) h = refl
+diet-in fields (suc (suc (suc zero))) h = refl
+diet-in fields (suc (suc (suc (suc zero)))) h = refl
+diet-in fields (suc (suc (suc (suc (suc zero))))) h = refl
+diet-in fields (suc (suc (suc (suc (suc (suc zero)))))) h = refl
+diet-in fields (suc (suc (suc (suc (suc (suc (suc age))))))) h = absurd (omega arith)
+
+pub without-foods : NoFoodsLaw
+unfolding filesRefusal beforeBookRefusal exposureAt scenarioOf
+without-foods site book =
+    record {
+      refusal = by-length (lengthRefusal (filesOf site book)) (siteRefusal site);
+      scenario = refl;
+      diet = λ passed age h. rw (accepted-scenario site passed) (diet-in (siteFields site) age h);
+      nine = λ passed age h. four-alone _ (diet-accepted site passed age h);
+    }
+  where
+    by-length : (lengths its : ℕ) → orElse (orElse lengths (orElse its 0)) (orElse (bookRefusal book) 0) ≡ orElse lengths (orElse its (orElse (bookRefusal book) 0))
+    by-length lengths its = ap (λ (n : ℕ). orElse (orElse lengths n) (orElse (bookRefusal book) 0)) (orElse-last its) ∙ sym (orElse-assoc lengths its (orElse (bookRefusal book) 0))
+
+pub with-foods : FoodsLaw
+unfolding filesRefusal beforeBookRefusal exposureAt
+with-foods site foods book passed =
+    record {
+      refusal = rw passed;
+      scenario = ap (λ (f : Foods). withDiets (dietsOf f) (readSite site .scenario)) (accepted-figures foods passed);
+      diet = λ age h. ap (λ (f : Foods). at (dietsOf f) age) (accepted-figures foods passed) ∙ diet-of-age (figuresOf foods) age (omega arith);
+    }
