@@ -24,7 +24,7 @@ words-of-requires c κs = search needs
 returns : tie.Need-returns
 returns c =
     let m = c .before .before in
-    let a = m .before .before .before .before .before .args in
+    let a = m .before .before .before .before .before .before .args in
     let e = m .month .ensures ∙ ap (λ (b : State). monthOf stepsADay b (filesIf (a .has-foods) (now (a .site)) (now (a .foods)) (now (a .book)))) (m .before .state-of .ensures) in (
       ap (λ (x : MonthAnswer). x .refusal) e,
       (c .words-of .ensures ∙ ap (λ (x : MonthAnswer). wordsOf (x .state)) e, ap (λ (x : MonthAnswer). x .blood) e),
