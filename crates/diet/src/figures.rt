@@ -4,7 +4,8 @@ use foods::places::FOODS;
 ghost use Prim.Native.Nat.{_<_};
 ghost use Rattle.numbers.specs.Bounds.{Is};
 ghost use Rattle.foods.specs.Names.{foodCount, ages, ownCount};
-ghost use Rattle.foods.specs.Figures.{gramsAt, leadOf, shareOf, ownLeadOf, mostGrams, mostLead, mostShare, FoodsLimits};
+ghost use Rattle.foods.specs.Figures.{gramsAt, leadOf, shareOf, ownLeadOf, mostGrams, mostLead, mostShare};
+ghost use Rattle.foods.specs.Limits.{FoodsLimits};
 
 // The grams of a food a day at an age.
 pub fn grams_at(foods: Foods, age: usize, food: usize) -> u64

@@ -6,7 +6,7 @@ ghost use mathlib.Core.Path.{_≡_};
 ghost use Prim.Native.Nat.{_<_};
 ghost use Rattle.numbers.specs.Bounds.{Is};
 ghost use Rattle.foods.specs.Names.{ages};
-ghost use Rattle.foods.specs.Figures.{FoodsLimits};
+ghost use Rattle.foods.specs.Limits.{FoodsLimits};
 ghost use Rattle.diet.specs.Diet.{mostDiet, dietAt, dietsOf};
 
 mod figures;

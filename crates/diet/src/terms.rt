@@ -7,7 +7,7 @@ ghost use Prim.Native.Nat.{_*_, _/_, _<_};
 ghost use lib.ListN.{getD};
 ghost use Rattle.numbers.specs.Bounds.{Is};
 ghost use Rattle.foods.specs.Names.{foodCount, ages, ownCount};
-ghost use Rattle.foods.specs.Figures.{FoodsLimits};
+ghost use Rattle.foods.specs.Limits.{FoodsLimits};
 ghost use Rattle.diet.specs.Diet.{foodLead, inMeat, halfBought, homeGrown, caught, wholeFoods, wholeCount, inWholeFoods, mostOfFood};
 
 // The foods that count whole, E-5m to E-5v.

@@ -13,7 +13,8 @@ use Rattle.numbers.proofs.Every.{and-left, and-right, every-at}
 use Rattle.numbers.proofs.Lists.{getD-below}
 use Rattle.foods.specs.declared.Foods.{Foods}
 use Rattle.foods.specs.Names.{ownCount, vegetable, fruit, fish, game}
-use Rattle.foods.specs.Figures.{shareOf, mostGrams, mostLead, mostShare, sharesFit, allWithin, amountsFit, FoodsLimits}
+use Rattle.foods.specs.Figures.{shareOf, mostGrams, mostLead, mostShare, sharesFit, allWithin, amountsFit}
+use Rattle.foods.specs.Limits.{FoodsLimits}
 
 -- the number at a place is at most a limit
 abbrev pub within : ℕ → List ℕ → ℕ → Bool

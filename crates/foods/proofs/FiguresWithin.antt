@@ -10,7 +10,7 @@ use Rattle.block.proofs.BlockRefusals.{block-of-input}
 use Rattle.block.proofs.Sealed.{accepted-check}
 use Rattle.foods.specs.declared.Foods.{Foods}
 use Rattle.foods.specs.declared.FoodsRead.{FoodsRead}
-use Rattle.foods.specs.Figures.{FoodsLimits}
+use Rattle.foods.specs.Limits.{FoodsLimits}
 use Rattle.foods.specs.Foods.{foodsForm, figuresOf, foodsRefusals, foodsRefusal, readAs, refusedWith, readFoods}
 use Rattle.foods.specs.Laws.{FoodsWithin, RightCheck}
 use Rattle.foods.proofs.FigureTests.{fit-limits}

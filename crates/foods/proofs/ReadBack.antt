@@ -13,7 +13,8 @@ use Rattle.block.proofs.Laid.{bytes-append, length-layoutWords, bytes-layoutWor
 use Rattle.block.proofs.Sealed.{length-sealed, words-sealed, fields-sealed, sealed-passes, written-sealed}
 use Rattle.foods.specs.declared.Foods.{Foods}
 use Rattle.foods.specs.Names.{foodCount, amountCount, ownCount}
-use Rattle.foods.specs.Figures.{sharesFit, amountsFit, FoodsLimits, Sized}
+use Rattle.foods.specs.Figures.{sharesFit, amountsFit}
+use Rattle.foods.specs.Limits.{FoodsLimits, Sized}
 use Rattle.foods.specs.Foods.{leadsAt, sharesAt, ownLeadsAt, foodsForm, figuresOf, readAs, readFoods, foodsBody}
 use Rattle.foods.specs.Laws.{BodyReadBack, FiguresReadBack}
 use Rattle.foods.proofs.ReadAnswers.{figures-made, read-tested}

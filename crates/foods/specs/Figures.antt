@@ -1,14 +1,13 @@
 -- The figures of a foods block, and their limits (document 02, [1]).
 -- Assumes nothing.
-use Prim.Native.Nat.{ℕ, _+_, _*_, _≤_, _<_}
-use mathlib.Core.Path.{_≡_}
+use Prim.Native.Nat.{ℕ, _+_, _*_}
 use mathlib.Core.Bool.{Bool, _&&_}
 use mathlib.Core.List.{List, _++_}
 use lib.ListN.{length, getD}
 use lib.Dec.{leb}
 use Rattle.numbers.specs.Choice.{every}
 use Rattle.foods.specs.declared.Foods.{Foods}
-use Rattle.foods.specs.Names.{foodCount, amountCount, ownCount, vegetable, fruit, fish, game}
+use Rattle.foods.specs.Names.{foodCount, vegetable, fruit, fish, game}
 
 -- the grams of a food a day at an age from 0 to 6: fifteen for each age
 abbrev pub gramsAt : Foods → ℕ → ℕ → ℕ
@@ -46,21 +45,6 @@ allWithin limit l = every (λ (k : ℕ). leb (getD l k 0) limit) 0 (length l)
 -- each amount and each lead is within its limit, else 11
 unfoldable pub amountsFit : Foods → Bool
 amountsFit f = allWithin mostGrams (f .grams) && (allWithin mostLead (f .leads) && allWithin mostLead (f .«own_leads»))
-
--- the same limits, as facts
-pub record FoodsLimits (f : Foods) : Type 0 where
-  pub its-grams : (k : ℕ) → getD (f .grams) k 0 ≤ mostGrams
-  pub its-leads : (food : ℕ) → leadOf f food ≤ mostLead
-  pub each-share : (own : ℕ) → own < ownCount → shareOf f own ≤ mostShare
-  pub fish-and-game : shareOf f fish + shareOf f game ≤ mostShare
-  pub own-leads : (own : ℕ) → ownLeadOf f own ≤ mostLead
-
--- figures with as many numbers as a block has
-pub record Sized (f : Foods) : Type 0 where
-  pub its-grams : length (f .grams) ≡ amountCount
-  pub its-leads : length (f .leads) ≡ foodCount
-  pub its-shares : length (f .shares) ≡ ownCount
-  pub own-leads : length (f .«own_leads») ≡ ownCount
 
 -- the figures in a row, 128 of them
 unfoldable pub figuresIn : Foods → List ℕ

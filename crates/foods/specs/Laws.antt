@@ -8,7 +8,8 @@ use lib.ListN.{length}
 use Rattle.block.specs.Block.{blockBytes, fieldAt, checkAt, checkOf}
 use Rattle.block.specs.Writer.{written, BodyPasses}
 use Rattle.foods.specs.declared.Foods.{Foods}
-use Rattle.foods.specs.Figures.{sharesFit, amountsFit, FoodsLimits, Sized}
+use Rattle.foods.specs.Figures.{sharesFit, amountsFit}
+use Rattle.foods.specs.Limits.{FoodsLimits, Sized}
 use Rattle.foods.specs.Foods.{foodsForm, figuresOf, foodsRefusal, readAs, readFoods, foodsBody}
 
 -- the figures of an accepted block are within their limits

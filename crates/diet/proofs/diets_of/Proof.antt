@@ -2,6 +2,7 @@
 -- Assumes nothing.
 use mathlib.Core.Path.{refl}
 use Prim.Native.Nat.{_-_}
+use native.Mathlib.Omega.{arith}
 use borrow.Author.Needs.{needs}
 use Rattle.numbers.proofs.Loops.{Filled, filled-none, filled-next, filled-all}
 use Rattle.foods.specs.Names.{ages}
@@ -19,7 +20,7 @@ loop-holds : tie.Need-loop-holds Inv-loop μ-loop
 loop-holds c = filled-none _ _ refl
 
 diet-at-requires : tie.Need-diet-at-requires Inv-loop μ-loop
-diet-at-requires c κs = (c .before .before .pre, c .loop-test .taken)
+diet-at-requires c κs = (c .before .before .pre, omega arith)
 
 mul-diets : tie.Need-mul-diets Inv-loop μ-loop
 mul-diets c = search needs
