@@ -6,6 +6,7 @@ use native.Mathlib.Omega.{arith}
 use lib.ListN.{length, getD}
 use Rattle.numbers.specs.Bounds.{Is}
 use Rattle.numbers.proofs.Bounds.{is}
+use Rattle.numbers.proofs.Lists.{getD-below}
 use Rattle.numbers.proofs.Every.{length-tab, getD-tab}
 use Rattle.numbers.proofs.Sums.{sum-le, sum-same}
 use Rattle.foods.specs.declared.Foods.{Foods}
@@ -85,3 +86,10 @@ length-diets f = length-tab ages (dietAt f)
 pub diet-of-age : (f : Foods) (age : ℕ) → age < ages → getD (dietsOf f) age 0 ≡ dietAt f age
 unfolding dietsOf
 diet-of-age f age h = getD-tab ages (dietAt f) age h
+
+pub diets-le : (f : Foods) → FoodsLimits f → (age : ℕ) → getD (dietsOf f) age 0 ≤ mostDiet
+diets-le f limits age =
+    let below : getD (dietsOf f) age 0 < mostDiet + 1 =
+    getD-below (mostDiet + 1) (omega arith) (dietsOf f)
+    (λ k h. omega (arith, diet-of-age f k (omega (arith, length-diets f)), diet-le f limits k)) age in
+    omega arith

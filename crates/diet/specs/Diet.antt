@@ -2,6 +2,7 @@
 -- Assumes nothing.
 use Prim.Native.Nat.{ℕ, _+_, _-_, _*_, _/_}
 use mathlib.Core.List.{List, [], _∷_}
+use lib.ListN.{length}
 use Rattle.numbers.specs.Choice.{tab}
 use Rattle.numbers.specs.Lists.{totalOf}
 use Rattle.foods.specs.declared.Foods.{Foods}
@@ -33,7 +34,7 @@ abbrev pub wholeFoods : List ℕ
 wholeFoods = dairy ∷ juices ∷ nuts ∷ bread ∷ pasta ∷ beverage ∷ candy ∷ sauce ∷ formula ∷ infant ∷ []
 
 abbrev pub wholeCount : ℕ
-wholeCount = 10
+wholeCount = length wholeFoods
 
 unfoldable pub inWholeFoods : Foods → ℕ → ℕ
 inWholeFoods f age = totalOf (foodLead f age) wholeFoods

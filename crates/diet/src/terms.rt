@@ -11,7 +11,9 @@ ghost use Rattle.foods.specs.Limits.{FoodsLimits};
 ghost use Rattle.diet.specs.Diet.{foodLead, inMeat, halfBought, homeGrown, caught, wholeFoods, wholeCount, inWholeFoods, mostOfFood};
 
 // The foods that count whole, E-5m to E-5v.
-const WHOLE_FOODS: [usize; 10] = [
+const WHOLE_COUNT: usize = 10;
+
+const WHOLE_FOODS: [usize; WHOLE_COUNT] = [
     places::DAIRY,
     places::JUICES,
     places::NUTS,
@@ -23,8 +25,6 @@ const WHOLE_FOODS: [usize; 10] = [
     places::FORMULA,
     places::INFANT,
 ];
-
-const WHOLE_COUNT: usize = 10;
 
 // The lead of a food's grams, E-4d to E-4r.
 fn food_lead(foods: Foods, age: usize, food: usize) -> u64
