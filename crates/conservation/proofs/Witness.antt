@@ -26,7 +26,7 @@ use Rattle.site.proofs.FieldsWithin.{read-refusal}
 use Rattle.site.proofs.ReadBack.{fields-read-back}
 use Rattle.foods.specs.declared.Foods.{Foods}
 use Rattle.foods.specs.declared.FoodsRead.{FoodsRead}
-use Rattle.foods.specs.Figures.{Sized}
+use Rattle.foods.specs.Limits.{Sized}
 use Rattle.foods.specs.Foods.{foodsRefusal, readFoods, foodsBody}
 use Rattle.foods.specs.Foods as foods
 use Rattle.foods.proofs.FiguresWithin.{read-refusal as foods-read-refusal}

@@ -10,7 +10,8 @@ use Rattle.numbers.proofs.Lists.{getD-below}
 use Rattle.numbers.proofs.Every.{length-tab, getD-tab}
 use Rattle.numbers.proofs.Sums.{sum-le, sum-same}
 use Rattle.foods.specs.declared.Foods.{Foods}
-use Rattle.foods.specs.Names.{foodCount, ages, ownCount, canFruit, canVeg, freshFruit, freshVeg, meat, vegetable, fruit, fish, game}
+use Rattle.site.specs.Fields.{ages}
+use Rattle.foods.specs.Names.{foodCount, ownCount, canFruit, canVeg, freshFruit, freshVeg, meat, vegetable, fruit, fish, game}
 use Rattle.foods.specs.Figures.{gramsAt, shareOf, ownLeadOf, mostGrams, mostLead, mostShare}
 use Rattle.foods.specs.Limits.{FoodsLimits}
 use Rattle.foods.specs.Foods.{readFoods}

@@ -6,7 +6,8 @@ use lib.ListN.{length}
 use Rattle.numbers.specs.Choice.{tab}
 use Rattle.numbers.specs.Lists.{totalOf}
 use Rattle.foods.specs.declared.Foods.{Foods}
-use Rattle.foods.specs.Names.{beverage, bread, canFruit, canVeg, candy, dairy, freshFruit, freshVeg, formula, infant, juices, meat, nuts, pasta, sauce, ages, vegetable, fruit, fish, game}
+use Rattle.site.specs.Fields.{ages}
+use Rattle.foods.specs.Names.{beverage, bread, canFruit, canVeg, candy, dairy, freshFruit, freshVeg, formula, infant, juices, meat, nuts, pasta, sauce, vegetable, fruit, fish, game}
 use Rattle.foods.specs.Figures.{gramsAt, leadOf, shareOf, ownLeadOf, mostGrams, mostLead}
 
 -- E-4d to E-4r: the lead of a food's grams

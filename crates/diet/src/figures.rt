@@ -3,7 +3,8 @@ use foods::Foods;
 use foods::places::FOODS;
 ghost use Prim.Native.Nat.{_<_};
 ghost use Rattle.numbers.specs.Bounds.{Is};
-ghost use Rattle.foods.specs.Names.{foodCount, ages, ownCount};
+ghost use Rattle.site.specs.Fields.{ages};
+ghost use Rattle.foods.specs.Names.{foodCount, ownCount};
 ghost use Rattle.foods.specs.Figures.{gramsAt, leadOf, shareOf, ownLeadOf, mostGrams, mostLead, mostShare};
 ghost use Rattle.foods.specs.Limits.{FoodsLimits};
 

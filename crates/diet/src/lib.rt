@@ -1,11 +1,11 @@
 // The diet intake of each age, pg/day, from a foods block: E-5d to E-5v, one floor for each food.
 use foods::Foods;
 use foods::places;
-use foods::places::AGES;
+use site::places::AGES;
 ghost use mathlib.Core.Path.{_≡_};
 ghost use Prim.Native.Nat.{_<_};
 ghost use Rattle.numbers.specs.Bounds.{Is};
-ghost use Rattle.foods.specs.Names.{ages};
+ghost use Rattle.site.specs.Fields.{ages};
 ghost use Rattle.foods.specs.Limits.{FoodsLimits};
 ghost use Rattle.diet.specs.Diet.{mostDiet, dietAt, dietsOf};
 

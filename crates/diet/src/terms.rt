@@ -6,12 +6,18 @@ ghost use mathlib.Core.Path.{_≡_};
 ghost use Prim.Native.Nat.{_*_, _/_, _<_};
 ghost use lib.ListN.{getD};
 ghost use Rattle.numbers.specs.Bounds.{Is};
-ghost use Rattle.foods.specs.Names.{foodCount, ages, ownCount};
+ghost use Rattle.site.specs.Fields.{ages};
+ghost use Rattle.foods.specs.Names.{foodCount, ownCount};
 ghost use Rattle.foods.specs.Limits.{FoodsLimits};
 ghost use Rattle.diet.specs.Diet.{foodLead, inMeat, halfBought, homeGrown, caught, wholeFoods, wholeCount, inWholeFoods, mostOfFood};
 
 // The foods that count whole, E-5m to E-5v.
 const WHOLE_COUNT: usize = 10;
+
+// A whole in hundredths, and in halves of them.
+const HUNDREDTHS: u64 = 100;
+
+const HALF_HUNDREDTHS: u64 = 200;
 
 const WHOLE_FOODS: [usize; WHOLE_COUNT] = [
     places::DAIRY,
@@ -44,8 +50,8 @@ pub fn in_meat(foods: Foods, age: usize) -> u64
     let fish = figures::share_of(foods, places::FISH);
     let game = figures::share_of(foods, places::GAME);
     let meat = food_lead(foods, age, places::MEAT);
-    let left = 100 - fish - game;
-    left * meat / 100
+    let left = HUNDREDTHS - fish - game;
+    left * meat / HUNDREDTHS
 }
 
 // A canned or fresh food: half of what is not home-grown.
@@ -55,8 +61,8 @@ pub fn half_bought(foods: Foods, age: usize, food: usize, own: usize) -> u64
 {
     let share = figures::share_of(foods, own);
     let bought = food_lead(foods, age, food);
-    let left = 100 - share;
-    left * bought / 200
+    let left = HUNDREDTHS - share;
+    left * bought / HALF_HUNDREDTHS
 }
 
 // A home-grown food: its share of the canned and fresh grams together, by its own lead.
@@ -69,7 +75,7 @@ pub fn home_grown(foods: Foods, age: usize, canned: usize, fresh: usize, own: us
     let fresh_grams = figures::grams_at(foods, age, fresh);
     let lead = figures::own_lead_of(foods, own);
     let grams = canned_grams + fresh_grams;
-    share * grams * lead / 100
+    share * grams * lead / HUNDREDTHS
 }
 
 // Fish or game: its share of the meat's grams, by its own lead.
@@ -80,7 +86,7 @@ pub fn caught(foods: Foods, age: usize, own: usize) -> u64
     let share = figures::share_of(foods, own);
     let grams = figures::grams_at(foods, age, places::MEAT);
     let lead = figures::own_lead_of(foods, own);
-    share * grams * lead / 100
+    share * grams * lead / HUNDREDTHS
 }
 
 // The food at a place of the list of those that count whole.

@@ -1,6 +1,7 @@
 -- The fifteen foods in the order of E-4d to E-4r, and the four own foods, which replace a share of others (document 02, [1]).
 -- Assumes nothing.
 use Prim.Native.Nat.{ℕ, _+_, _*_}
+use Rattle.site.specs.Fields.{ages}
 
 abbrev pub beverage : ℕ  -- E-4d
 beverage = 0
@@ -50,10 +51,7 @@ sauce = 14
 abbrev pub foodCount : ℕ
 foodCount = 15
 
--- ages 0 to 6, and the foods' amounts at all of them
-abbrev pub ages : ℕ
-ages = 7
-
+-- the foods' amounts at all ages
 abbrev pub amountCount : ℕ
 amountCount = ages * foodCount
 

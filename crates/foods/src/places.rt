@@ -1,4 +1,6 @@
 // The places of the foods, in the order of E-4d to E-4r, and of the own foods, which replace a share of others.
+use site::places::AGES;
+
 pub const BEVERAGE: usize = 0;
 
 pub const BREAD: usize = 1;
@@ -29,10 +31,8 @@ pub const PASTA: usize = 13;
 
 pub const SAUCE: usize = 14;
 
-// The number of foods, of ages, and of the foods' amounts at all ages.
+// The number of foods, and of their amounts at all ages.
 pub const FOODS: usize = 15;
-
-pub const AGES: usize = 7;
 
 pub const AMOUNTS: usize = AGES * FOODS;
 

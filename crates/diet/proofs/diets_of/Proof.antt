@@ -5,7 +5,7 @@ use Prim.Native.Nat.{_-_}
 use native.Mathlib.Omega.{arith}
 use borrow.Author.Needs.{needs}
 use Rattle.numbers.proofs.Loops.{Filled, filled-none, filled-next, filled-all}
-use Rattle.foods.specs.Names.{ages}
+use Rattle.site.specs.Fields.{ages}
 use Rattle.diet.specs.Diet.{dietAt, dietsOf}
 use Rattle.diet.proofs.diets_of.Statement.{statement}
 use Rattle.diet.proofs.diets_of.Tie as tie
