@@ -12,6 +12,7 @@ use Rattle.site.specs.Site.{siteFields, siteRefusal, readSite}
 use Rattle.foods.specs.Foods.{figuresOf, foodsRefusal}
 use Rattle.diet.specs.Diet.{dietAt, dietsOf}
 use Rattle.book.specs.Book.{bookRefusal}
+use Rattle.exposure.specs.declared.Exposure.{Exposure}
 use Rattle.exposure.specs.Exposure.{exposureAt}
 use Rattle.intake.specs.Laws.{FourPassed, RefusalLaw}
 use Rattle.kinetics.specs.declared.State.{State}
@@ -49,15 +50,17 @@ RunLaws =
     (steps : Files → ℕ) → ((f : Files) → 0 < steps f) → (f : Files) → startRefusal f lastMonth ≡ 0
     → RunLaw (birthOf f .state) (acceptedMonths steps (birthOf f .state) (replicate lastMonth f)) (runOf (steps f) f lastMonth)
 
+-- what a site file by itself exposes a child of an age to
+abbrev pub siteExposure : List ℕ → ℕ → Exposure
+siteExposure site age = exposureAt (readSite site .scenario) age
+
 -- without a foods block every answer is as it was before there were any: its files are refused as the lengths, the site file and the book say,
 -- its scenario and its diet are the site file's, and 9 looks at air, water, soil and dust alone
 pub record WithoutFoods (site book : List ℕ) : Type 0 where
   pub refusal : filesRefusal (filesOf site book) ≡ firstOf (lengthRefusal (filesOf site book) ∷ siteRefusal site ∷ bookRefusal book ∷ [])
   pub scenario : scenarioIn (filesOf site book) ≡ readSite site .scenario
-  pub diet : siteRefusal site ≡ 0 → (age : ℕ) → age ≤ lastAge → exposureAt (readSite site .scenario) age .diet ≡ byAge (siteFields site) dietGroup age
-  pub nine :
-      siteRefusal site ≡ 0 → (age : ℕ) → age ≤ lastAge
-      → RefusalLaw (exposureAt (readSite site .scenario) age) (FourPassed (exposureAt (readSite site .scenario) age))
+  pub diet : siteRefusal site ≡ 0 → (age : ℕ) → age ≤ lastAge → siteExposure site age .diet ≡ byAge (siteFields site) dietGroup age
+  pub nine : siteRefusal site ≡ 0 → (age : ℕ) → age ≤ lastAge → RefusalLaw (siteExposure site age) (FourPassed (siteExposure site age))
 
 -- with an accepted one all is as without it but the diets, and they are E-5's
 pub record WithFoods (site foods book : List ℕ) : Type 0 where

@@ -71,7 +71,8 @@ pub extern "C" fn jurengate_read_site(site: &[u8], fields: &mut [u32; FIELDS]) -
     let scenario = read.scenario;
     let read_fields = scenario.fields;
     *fields = read_fields;
-    read.refusal
+    let of_site = read.refusal;
+    of_site
 }
 
 // Reads a rate book: its refusal, and its 85 rows of 23 numbers, zeros if it is refused.
@@ -93,7 +94,8 @@ pub extern "C" fn jurengate_read_foods(foods: &[u8], figures: &mut [u32; FIGURES
     let read = foods::read_foods(foods);
     let its_foods = read.foods;
     *figures = foods::rows::figures_in(its_foods);
-    read.refusal
+    let of_foods = read.refusal;
+    of_foods
 }
 
 // Writes a body of 508 bytes with its check into a target of 512.
