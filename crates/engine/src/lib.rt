@@ -88,13 +88,7 @@ pub fn birth(site: &[u8], has_foods: bool, foods: &[u8], book: &[u8]) -> BirthAn
 }
 
 // One month: the child a month later, and its blood figure.
-pub fn month(
-    state: State,
-    site: &[u8],
-    has_foods: bool,
-    foods: &[u8],
-    book: &[u8],
-) -> MonthAnswer
+pub fn month(state: State, site: &[u8], has_foods: bool, foods: &[u8], book: &[u8]) -> MonthAnswer
     ensures { λ r. ⌜ r ≡ monthOf stepsADay state (filesIf «has_foods» (now (site .entry)) (now (foods .entry)) (now (book .entry))) ⌝ }
 {
     let mut table = [0u32; TABLE_NUMBERS];
@@ -119,13 +113,7 @@ fn refused_run(refusal: u32) -> RunAnswer
 }
 
 // The run: birth and 84 months, the blood figure of each month done written into the lent list.
-pub fn run(
-    site: &[u8],
-    has_foods: bool,
-    foods: &[u8],
-    book: &[u8],
-    blood: &mut [u32],
-) -> RunAnswer
+pub fn run(site: &[u8], has_foods: bool, foods: &[u8], book: &[u8], blood: &mut [u32]) -> RunAnswer
     ensures { λ r. ⌜ r ≡ runAnswer (runOf stepsADay (filesIf «has_foods» (now (site .entry)) (now (foods .entry)) (now (book .entry))) (length (now (blood .entry)))) ⌝ }
     ensures { λ _. ⌜ now (blood .exit) ≡ runList (runOf stepsADay (filesIf «has_foods» (now (site .entry)) (now (foods .entry)) (now (book .entry))) (length (now (blood .entry)))) (now (blood .entry)) ⌝ }
 {
