@@ -1,8 +1,8 @@
--- Without a foods block nothing has changed; with an accepted one the diet is E-5's, and nothing else is another.
+-- Without a foods block nothing has changed; with an accepted one the diet is E-5's, nothing else is another, and T keeps its bound.
 -- Assumes nothing.
 use Prim.Native.Nat.{ℕ, zero, suc, _≤_}
 use mathlib.Core.Path.{_≡_, refl, sym, ap, _∙_}
-use mathlib.Core.List.{List, [], _∷_}
+use mathlib.Core.List.{List}
 use native.Mathlib.Omega.{arith}
 use Rattle.numbers.specs.Choice.{orElse}
 use Rattle.numbers.proofs.Refusals.{orElse-assoc, orElse-last}
@@ -11,7 +11,7 @@ use Rattle.site.specs.Scenario.{dietsIn, scenarioOf, withDiets}
 use Rattle.site.specs.Site.{siteFields, siteRefusal, readSite}
 use Rattle.site.proofs.FieldsWithin.{accepted-scenario}
 use Rattle.foods.specs.declared.Foods.{Foods}
-use Rattle.foods.specs.Foods.{figuresOf, foodsRefusal}
+use Rattle.foods.specs.Foods.{figuresOf}
 use Rattle.foods.proofs.FiguresWithin.{accepted-figures}
 use Rattle.diet.specs.Diet.{dietsOf}
 use Rattle.diet.proofs.DietBounds.{diet-of-age}
@@ -19,8 +19,12 @@ use Rattle.book.specs.Book.{bookRefusal}
 use Rattle.exposure.specs.Exposure.{exposureAt}
 use Rattle.exposure.proofs.ExposureWithin.{diet-accepted}
 use Rattle.intake.proofs.Refusal9.{four-alone}
-use Rattle.files.specs.Files.{filesOf, filesWith, lengthRefusal, beforeBookRefusal, filesRefusal, scenarioIn}
-use Rattle.conservation.specs.Laws.{WithoutFoods, WithFoods, FoodsLaw, NoFoodsLaw}
+use Rattle.uptake.specs.Age.{ageOf}
+use Rattle.uptake.proofs.UptakeBounds.{age-law, day-law}
+use Rattle.child.specs.Month.{exposureIn, monthUptake}
+use Rattle.files.specs.Files.{filesOf, lengthRefusal, beforeBookRefusal, filesRefusal, scenarioIn}
+use Rattle.engine.proofs.FilesDecoded.{files-decoded}
+use Rattle.conservation.specs.Laws.{FoodsLaw, NoFoodsLaw, UptakeLaw}
 
 -- one number for each age
 diet-in : (fields : List ℕ) (age : ℕ) → age ≤ lastAge → at (dietsIn fields) age ≡ byAge fields dietGroup age
@@ -54,3 +58,8 @@ with-foods site foods book passed =
       scenario = ap (λ (f : Foods). withDiets (dietsOf f) (readSite site .scenario)) (accepted-figures foods passed);
       diet = λ age h. ap (λ (f : Foods). at (dietsOf f) age) (accepted-figures foods passed) ∙ diet-of-age (figuresOf foods) age (omega arith);
     }
+
+pub uptake-law : UptakeLaw
+unfolding monthUptake
+uptake-law f passed m most intakes =
+    day-law (exposureIn (scenarioIn f) m) _ _ (files-decoded f passed .exposure (ageOf m) (age-law m most)) intakes

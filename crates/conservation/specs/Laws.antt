@@ -14,10 +14,13 @@ use Rattle.diet.specs.Diet.{dietAt, dietsOf}
 use Rattle.book.specs.Book.{bookRefusal}
 use Rattle.exposure.specs.declared.Exposure.{Exposure}
 use Rattle.exposure.specs.Exposure.{exposureAt}
+use Rattle.intake.specs.Intake.{intakeRefusal}
 use Rattle.intake.specs.Laws.{FourPassed, RefusalLaw}
+use Rattle.uptake.specs.Laws.{dayLimit}
 use Rattle.kinetics.specs.declared.State.{State}
-use Rattle.files.specs.Files.{Files, filesOf, filesWith, lengthRefusal, filesRefusal, scenarioIn}
+use Rattle.files.specs.Files.{Files, filesOf, filesWith, lengthRefusal, filesRefusal, scenarioIn, tableIn}
 use Rattle.row.specs.Row.{lastMonth}
+use Rattle.child.specs.Month.{exposureIn, monthUptake}
 use Rattle.child.specs.Months.{MonthsRun}
 use Rattle.engine.specs.Birth.{birthOf}
 use Rattle.engine.specs.Month.{monthOf}
@@ -73,3 +76,9 @@ FoodsLaw = (site foods book : List ℕ) → foodsRefusal foods ≡ 0 → WithFoo
 
 abbrev pub NoFoodsLaw : Type 0
 NoFoodsLaw = (site book : List ℕ) → WithoutFoods site book
+
+-- with foods or without, T is at most 6 × 10^9 once 9 has let the intakes of the month's age pass
+abbrev pub UptakeLaw : Type 0
+UptakeLaw =
+    (f : Files) → filesRefusal f ≡ 0 → (m : ℕ) → m ≤ lastMonth → intakeRefusal (exposureIn (scenarioIn f) m) ≡ 0
+    → monthUptake (scenarioIn f) (tableIn f) m ≤ dayLimit

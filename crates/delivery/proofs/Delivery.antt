@@ -52,6 +52,7 @@ delivery =
       media = uptake.medium-laws;
       air = uptake.air-law;
       day = uptake.day-law;
+      files-uptake = fed.uptake-law;
       shares = shares.share-law;
       birth = newborn.birth-law;
       blood-figure = figure.blood-law;

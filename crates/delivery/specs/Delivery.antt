@@ -56,6 +56,7 @@ pub record Delivery : Type 0 where
   pub media : (e : Exposure) (weight weight24 : ℕ) → uptake.MediumLaws e weight weight24
   pub air : (e : Exposure) → uptake.AirLaw e
   pub day : (e : Exposure) (weight weight24 : ℕ) → uptake.DayLaw e weight weight24
+  pub files-uptake : calls.UptakeLaw
   -- the steps of a day absorb T together
   pub shares : steps.ShareLaws
   -- plasma and red cells at birth are the blood total; the blood figure is at most 50,000,000
