@@ -1,13 +1,14 @@
 -- Without a foods block nothing has changed; with an accepted one the diet is E-5's, nothing else is another, and T keeps its bound.
 -- Assumes nothing.
-use Prim.Native.Nat.{ℕ, zero, suc, _≤_}
+use Prim.Native.Nat.{ℕ}
 use mathlib.Core.Path.{_≡_, refl, sym, ap, _∙_}
 use mathlib.Core.List.{List}
 use native.Mathlib.Omega.{arith}
 use Rattle.numbers.specs.Choice.{orElse}
+use Rattle.numbers.proofs.Every.{getD-tab}
 use Rattle.numbers.proofs.Refusals.{orElse-assoc, orElse-last}
-use Rattle.site.specs.Fields.{lastAge, at, byAge, dietGroup}
-use Rattle.site.specs.Scenario.{dietsIn, scenarioOf, withDiets}
+use Rattle.site.specs.Fields.{ages, at, byAge, dietGroup}
+use Rattle.site.specs.Scenario.{scenarioOf, withDiets}
 use Rattle.site.specs.Site.{siteFields, siteRefusal, readSite}
 use Rattle.site.proofs.FieldsWithin.{accepted-scenario}
 use Rattle.foods.specs.declared.Foods.{Foods}
@@ -26,24 +27,13 @@ use Rattle.files.specs.Files.{filesOf, lengthRefusal, beforeBookRefusal, filesR
 use Rattle.engine.proofs.FilesDecoded.{files-decoded}
 use Rattle.conservation.specs.Laws.{FoodsLaw, NoFoodsLaw, UptakeLaw}
 
--- one number for each age
-diet-in : (fields : List ℕ) (age : ℕ) → age ≤ lastAge → at (dietsIn fields) age ≡ byAge fields dietGroup age
-diet-in fields zero h = refl
-diet-in fields (suc zero) h = refl
-diet-in fields (suc (suc zero)) h = refl
-diet-in fields (suc (suc (suc zero))) h = refl
-diet-in fields (suc (suc (suc (suc zero)))) h = refl
-diet-in fields (suc (suc (suc (suc (suc zero))))) h = refl
-diet-in fields (suc (suc (suc (suc (suc (suc zero)))))) h = refl
-diet-in fields (suc (suc (suc (suc (suc (suc (suc age))))))) h = absurd (omega arith)
-
 pub without-foods : NoFoodsLaw
 unfolding filesRefusal beforeBookRefusal exposureAt scenarioOf
 without-foods site book =
     record {
       refusal = by-length (lengthRefusal (filesOf site book)) (siteRefusal site);
       scenario = refl;
-      diet = λ passed age h. rw (accepted-scenario site passed) (diet-in (siteFields site) age h);
+      diet = λ passed age h. rw (accepted-scenario site passed) (getD-tab ages (byAge (siteFields site) dietGroup) age (omega arith));
       nine = λ passed age h. four-alone _ (diet-accepted site passed age h);
     }
   where

@@ -8,6 +8,7 @@ use native.Mathlib.Omega.{arith}
 use lib.ListN.{getD}
 use lib.Dec.{leb}
 use Rattle.numbers.specs.Choice.{every}
+use Rattle.numbers.proofs.Every.{getD-tab}
 use Rattle.numbers.proofs.Lists.{each-getD}
 use Rattle.site.specs.declared.Scenario.{Scenario}
 use Rattle.site.specs.Fields.{lastAge, ages, singlesAt, singles, at, limits, byAge, dietGroup, single, fieldsFit}
@@ -80,10 +81,7 @@ exposure-accepted site diets passed age h = exposure-within (withDiets diets (re
 diet-le : (fields : List ℕ) → fieldsFit fields ≡ true → (age : ℕ) → age ≤ lastAge → at (dietsIn fields) age ≤ 1_000_000_000
 unfolding limits every
 diet-le fields fit age h =
-    let within : (a : ℕ) → a ≤ lastAge → byAge fields dietGroup a ≤ 1_000_000_000 = group-le fields fit dietGroup 1_000_000_000 refl (omega arith) in
-    each-getD (λ d. d ≤ 1_000_000_000) (omega arith) (dietsIn fields)
-    (within 0 (omega arith), (within 1 (omega arith), (within 2 (omega arith), (within 3 (omega arith), (within 4 (omega arith), (within 5 (omega arith), (within 6 (omega arith), tt)))))))
-    age
+    rw (getD-tab ages (byAge fields dietGroup) age (omega arith)) (group-le fields fit dietGroup 1_000_000_000 refl (omega arith) age h)
 
 pub diet-accepted : DietWithin
 unfolding exposureAt scenarioOf

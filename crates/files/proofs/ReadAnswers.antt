@@ -12,6 +12,7 @@ use Rattle.site.specs.Site.{siteRefusal, readSite}
 use Rattle.site.proofs.FieldsWithin.{read-refusal}
 use Rattle.foods.specs.declared.FoodsRead.{FoodsRead}
 use Rattle.foods.specs.Foods.{foodsRefusal, readFoods}
+use Rattle.foods.proofs.FiguresWithin.{read-refusal as foods-read-refusal}
 use Rattle.diet.specs.Diet.{dietsOf}
 use Rattle.book.specs.Book.{bookRefusal, bookTable}
 use Rattle.files.specs.declared.FilesRead.{FilesRead}

@@ -74,15 +74,14 @@ fn water_source_of(mode: u32) -> WaterSource
 fn diets_in(fields: [u32; FIELDS]) -> [u64; AGES]
     ensures { λ r. ⌜ r ≡ dietsIn fields ⌝ }
 {
-    [
-        fields[places::DIET] as u64,
-        fields[places::DIET + 1] as u64,
-        fields[places::DIET + 2] as u64,
-        fields[places::DIET + 3] as u64,
-        fields[places::DIET + 4] as u64,
-        fields[places::DIET + 5] as u64,
-        fields[places::DIET + 6] as u64,
-    ]
+    let mut diets = [0u64; AGES];
+    let mut age: usize = 0;
+    while age < AGES {
+        let field = fields[places::DIET + age];
+        diets[age] = field as u64;
+        age = age + 1;
+    }
+    diets
 }
 
 // The scenario of a site file's fields.
