@@ -19,12 +19,11 @@ use Rattle.block.proofs.Laid.{body-passes}
 use Rattle.block.proofs.Sealed.{length-sealed, written-sealed}
 use Rattle.site.specs.declared.Scenario.{Scenario}
 use Rattle.site.specs.declared.SiteRead.{SiteRead}
-use Rattle.site.specs.Fields.{lastAge, ages, fieldCount, limits, withinLimits, fieldsFit}
+use Rattle.site.specs.Fields.{ages, fieldCount, limits, withinLimits, fieldsFit}
 use Rattle.site.specs.Scenario.{scenarioOf, withDiets, motherOf}
 use Rattle.site.specs.Site.{siteForm, siteRefusal, readAs, readSite}
 use Rattle.site.proofs.FieldsWithin.{read-refusal}
 use Rattle.site.proofs.ReadBack.{fields-read-back}
-use Rattle.foods.specs.declared.Foods.{Foods}
 use Rattle.foods.specs.declared.FoodsRead.{FoodsRead}
 use Rattle.foods.specs.Limits.{Sized}
 use Rattle.foods.specs.Foods.{foodsRefusal, readFoods, foodsBody}
@@ -44,7 +43,6 @@ use Rattle.book.proofs.ReadBack.{book-read-back}
 use Rattle.kinetics.specs.declared.State.{State}
 use Rattle.kinetics.specs.Step.{burden, burdenLimit, next}
 use Rattle.row.proofs.RowWithin.{row-within}
-use Rattle.exposure.specs.declared.Exposure.{Exposure}
 use Rattle.exposure.specs.Exposure.{exposureAt}
 use Rattle.intake.specs.Intake.{airIntake, waterIntake, soilIntake, dustConcentration, dustIntake, intakesOf, refusalOf, intakeRefusal}
 use Rattle.uptake.specs.Age.{ageOf}
