@@ -10,9 +10,10 @@
 
 enum { STACK_BYTES = 1 << 20, PAGE_BYTES = 4096, PAINT = 0xA5 };
 
-static uint8_t site[JURENGATE_SITE_BYTES], book[JURENGATE_BOOK_BYTES], target[JURENGATE_BLOCK_BYTES];
+static uint8_t site[JURENGATE_SITE_BYTES], foods[JURENGATE_FOODS_BYTES], book[JURENGATE_BOOK_BYTES];
+static uint8_t target[JURENGATE_BLOCK_BYTES];
 static uint64_t state[JURENGATE_STATE_WORDS];
-static uint32_t fields[JURENGATE_SITE_FIELDS], table[JURENGATE_TABLE_NUMBERS];
+static uint32_t fields[JURENGATE_SITE_FIELDS], eaten[JURENGATE_FOODS_FIGURES], table[JURENGATE_TABLE_NUMBERS];
 static uint32_t figures[JURENGATE_MONTHS], blood, months, refusal;
 
 static void nothing(void) {}
@@ -23,6 +24,17 @@ static void birth(void) { refusal = jurengate_birth(site, sizeof site, book, siz
 static void month(void) { refusal = jurengate_month(site, sizeof site, book, sizeof book, state, &blood); }
 static void run(void) {
     refusal = jurengate_run(site, sizeof site, book, sizeof book, figures, JURENGATE_MONTHS, state, &months);
+}
+static void read_foods(void) { refusal = jurengate_read_foods(foods, sizeof foods, eaten); }
+static void birth_foods(void) {
+    refusal = jurengate_birth_foods(site, sizeof site, foods, sizeof foods, book, sizeof book, state);
+}
+static void month_foods(void) {
+    refusal = jurengate_month_foods(site, sizeof site, foods, sizeof foods, book, sizeof book, state, &blood);
+}
+static void run_foods(void) {
+    refusal = jurengate_run_foods(site, sizeof site, foods, sizeof foods, book, sizeof book, figures, JURENGATE_MONTHS,
+                                  state, &months);
 }
 
 static uint8_t *stack;
@@ -67,16 +79,18 @@ static void fill(const char *name, uint8_t *bytes, size_t size) {
 }
 
 int main(int argc, char **argv) {
-    if (argc != 3) {
-        fprintf(stderr, "usage: stack SITE BOOK\n");
+    if (argc != 4) {
+        fprintf(stderr, "usage: stack SITE FOODS BOOK\n");
         return 2;
     }
     fill(argv[1], site, sizeof site);
-    fill(argv[2], book, sizeof book);
+    fill(argv[2], foods, sizeof foods);
+    fill(argv[3], book, sizeof book);
     size_t thread = peak(nothing);
     struct { const char *name; void (*call)(void); } calls[] = {
         {"read_site", read_site}, {"read_book", read_book}, {"write_block", write_block},
         {"birth", birth}, {"month", month}, {"run", run},
+        {"read_foods", read_foods}, {"birth_foods", birth_foods}, {"month_foods", month_foods}, {"run_foods", run_foods},
     };
     for (size_t i = 0; i < sizeof calls / sizeof calls[0]; i++) {
         printf("%s: %zu bytes of stack", calls[i].name, peak(calls[i].call) - thread);

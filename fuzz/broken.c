@@ -1,6 +1,7 @@
 /* Broken stand-ins for the self-check: linked with --wrap, each call goes through here, and the variable FAULT says what is done wrong.
  * Each fault shows on few inputs only; the harness must find every one. */
 #include <stdlib.h>
+#include <string.h>
 
 #include "case.h"
 
@@ -13,6 +14,16 @@ uint32_t __real_jurengate_write_block(const uint8_t *, size_t, uint8_t *, size_t
 uint32_t __real_jurengate_birth(const uint8_t *, size_t, const uint8_t *, size_t, uint64_t *);
 uint32_t __real_jurengate_month(const uint8_t *, size_t, const uint8_t *, size_t, uint64_t *, uint32_t *);
 uint32_t __real_jurengate_run(const uint8_t *, size_t, const uint8_t *, size_t, uint32_t *, size_t, uint64_t *, uint32_t *);
+
+uint32_t __real_jurengate_read_foods(const uint8_t *, size_t, uint32_t *);
+uint32_t __real_jurengate_birth_foods(const uint8_t *, size_t, const uint8_t *, size_t, const uint8_t *, size_t, uint64_t *);
+uint32_t __real_jurengate_month_foods(const uint8_t *, size_t, const uint8_t *, size_t, const uint8_t *, size_t, uint64_t *,
+                                      uint32_t *);
+uint32_t __real_jurengate_run_foods(const uint8_t *, size_t, const uint8_t *, size_t, const uint8_t *, size_t, uint32_t *, size_t,
+                                    uint64_t *, uint32_t *);
+
+/* Where a foods block has the lead of candy and the share of fish, whose neighbour is that of game. */
+enum { CANDY_LEAD_AT = 230, FISH_SHARE_AT = 282, FIELD_BYTES = 4 };
 
 static int fault_is(int fault) {
     static int asked = -1;
@@ -79,6 +90,50 @@ uint32_t __wrap_jurengate_run(const uint8_t *site, size_t site_len, const uint8_
     uint32_t number = __real_jurengate_run(site, site_len, book, book_len, blood, blood_len, state, months);
     if (fault_is(8) && number == JURENGATE_INTAKE_TOO_LARGE && *months > 0) {
         blood[*months] = 0; /* the figure of the refused month */
+    }
+    return number;
+}
+
+uint32_t __wrap_jurengate_read_foods(const uint8_t *foods, size_t foods_len, uint32_t *figures) {
+    uint32_t number = __real_jurengate_read_foods(foods, foods_len, figures);
+    uint32_t shares[2];
+    if (fault_is(9) && number == JURENGATE_SHARES_TOO_LARGE) {
+        memcpy(shares, foods + FISH_SHARE_AT, sizeof shares);
+        if (shares[0] > UINT32_MAX - shares[1] && shares[0] + shares[1] <= 100) {
+            return JURENGATE_FOOD_OUTSIDE_LIMITS; /* fish and game added in 32 bits */
+        }
+    }
+    return number;
+}
+
+uint32_t __wrap_jurengate_birth_foods(const uint8_t *site, size_t site_len, const uint8_t *foods, size_t foods_len,
+                                      const uint8_t *book, size_t book_len, uint64_t *state) {
+    uint32_t number = __real_jurengate_birth_foods(site, site_len, foods, foods_len, book, book_len, state);
+    if (fault_is(10) && number == JURENGATE_FIELD_OUTSIDE_LIMITS && foods_len != JURENGATE_FOODS_BYTES) {
+        return JURENGATE_WRONG_LENGTH; /* the foods block's length before the site's 7 */
+    }
+    return number;
+}
+
+uint32_t __wrap_jurengate_month_foods(const uint8_t *site, size_t site_len, const uint8_t *foods, size_t foods_len,
+                                      const uint8_t *book, size_t book_len, uint64_t *state, uint32_t *blood) {
+    uint8_t body[JURENGATE_BODY_BYTES], without[JURENGATE_BLOCK_BYTES];
+    if (fault_is(11) && foods_len == JURENGATE_FOODS_BYTES &&
+        __real_jurengate_read_foods(foods, foods_len, (uint32_t[JURENGATE_FOODS_FIGURES]){0}) == JURENGATE_ACCEPTED) {
+        memcpy(body, foods, sizeof body);
+        memset(body + CANDY_LEAD_AT, 0, FIELD_BYTES);
+        __real_jurengate_write_block(body, sizeof body, without, sizeof without);
+        foods = without; /* the diet without candy */
+    }
+    return __real_jurengate_month_foods(site, site_len, foods, foods_len, book, book_len, state, blood);
+}
+
+uint32_t __wrap_jurengate_run_foods(const uint8_t *site, size_t site_len, const uint8_t *foods, size_t foods_len,
+                                    const uint8_t *book, size_t book_len, uint32_t *blood, size_t blood_len, uint64_t *state,
+                                    uint32_t *months) {
+    uint32_t number = __real_jurengate_run_foods(site, site_len, foods, foods_len, book, book_len, blood, blood_len, state, months);
+    if (fault_is(12) && number == JURENGATE_FOOD_OUTSIDE_LIMITS) {
+        *months = 1; /* a month that was never run */
     }
     return number;
 }

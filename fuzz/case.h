@@ -4,19 +4,25 @@
 
 #include "jurengate.h"
 
-enum call { READ_SITE, READ_BOOK, WRITE_BLOCK, BIRTH, MONTH, RUN, CALLS };
+enum call { READ_SITE, READ_BOOK, WRITE_BLOCK, BIRTH, MONTH, RUN, READ_FOODS, BIRTH_FOODS, MONTH_FOODS, RUN_FOODS, CALLS };
 
 /* Room for files longer than they should be. */
-enum { SITE_ROOM = 2 * JURENGATE_BLOCK_BYTES, BOOK_ROOM = (JURENGATE_BOOK_BLOCKS + 2) * JURENGATE_BLOCK_BYTES };
+enum {
+    SITE_ROOM = 2 * JURENGATE_BLOCK_BYTES,
+    FOODS_ROOM = 2 * JURENGATE_BLOCK_BYTES,
+    BOOK_ROOM = (JURENGATE_BOOK_BLOCKS + 2) * JURENGATE_BLOCK_BYTES
+};
 
 struct fuzz_case {
     uint32_t call;
     uint32_t sides;  /* a bit for each lent memory: it begins behind a closed page, else it ends before one */
     size_t site_len; /* for the writer: of its body */
+    size_t foods_len;
     size_t book_len;
     size_t list_len; /* of the run's list, in figures; of the writer's target, in bytes */
     uint64_t state[JURENGATE_STATE_WORDS];
     uint8_t site[SITE_ROOM];
+    uint8_t foods[FOODS_ROOM];
     uint8_t book[BOOK_ROOM];
 };
 
@@ -31,5 +37,13 @@ uint32_t model_month(const uint8_t *site, size_t site_len, const uint8_t *book, 
                      uint64_t state[JURENGATE_STATE_WORDS], uint32_t *blood);
 uint32_t model_run(const uint8_t *site, size_t site_len, const uint8_t *book, size_t book_len, uint32_t *blood, size_t blood_len,
                    uint64_t state[JURENGATE_STATE_WORDS], uint32_t *months);
+uint32_t model_read_foods(const uint8_t *foods, size_t foods_len, uint32_t figures[JURENGATE_FOODS_FIGURES]);
+uint32_t model_birth_foods(const uint8_t *site, size_t site_len, const uint8_t *foods, size_t foods_len, const uint8_t *book,
+                           size_t book_len, uint64_t state[JURENGATE_STATE_WORDS]);
+uint32_t model_month_foods(const uint8_t *site, size_t site_len, const uint8_t *foods, size_t foods_len, const uint8_t *book,
+                           size_t book_len, uint64_t state[JURENGATE_STATE_WORDS], uint32_t *blood);
+uint32_t model_run_foods(const uint8_t *site, size_t site_len, const uint8_t *foods, size_t foods_len, const uint8_t *book,
+                         size_t book_len, uint32_t *blood, size_t blood_len, uint64_t state[JURENGATE_STATE_WORDS],
+                         uint32_t *months);
 
 #endif

@@ -11,7 +11,7 @@
 #include "engine_code.h"
 #include "jurengate.h"
 
-enum memory { SITE, BOOK, STATE, LIST, FIGURE, MEMORIES };
+enum memory { SITE, FOODS, BOOK, STATE, LIST, FIGURE, MEMORIES };
 
 enum { PAGE = 4096, OPEN_BYTES = 3 * PAGE, PAINT = 0xA5, FILLER = 0x5A };
 
@@ -29,8 +29,9 @@ static struct lent lent[MEMORIES];
 static uint8_t paint[OPEN_BYTES];
 static struct fuzz_case asked;
 
-static const char *const call_names[CALLS] = {"read_site", "read_book", "write_block", "birth", "month", "run"};
-static const char *const memory_names[MEMORIES] = {"site", "book", "state", "list", "figure"};
+static const char *const call_names[CALLS] = {"read_site",  "read_book",   "write_block", "birth",    "month", "run",
+                                              "read_foods", "birth_foods", "month_foods", "run_foods"};
+static const char *const memory_names[MEMORIES] = {"site", "foods", "book", "state", "list", "figure"};
 
 /* The numbers that each call can answer, a bit for each. */
 #define BIT(number) (1u << JURENGATE_##number)
@@ -38,13 +39,21 @@ static const char *const memory_names[MEMORIES] = {"site", "book", "state", "lis
 #define BLOCK_NUMBERS \
     (LENGTH_NUMBERS | BIT(CHECK_WRONG) | BIT(EDITION_WRONG) | BIT(NUMBER_WRONG) | BIT(RESERVED_NOT_ZERO))
 #define FILE_NUMBERS (BLOCK_NUMBERS | BIT(FIELD_OUTSIDE_LIMITS) | BIT(ROW_OUTSIDE_LIMITS))
+#define FOODS_NUMBERS (BIT(SHARES_TOO_LARGE) | BIT(FOOD_OUTSIDE_LIMITS))
+#define BIRTH_NUMBERS (FILE_NUMBERS | BIT(BURDEN_TOO_LARGE))
+#define MONTH_NUMBERS (BIRTH_NUMBERS | BIT(INTAKE_TOO_LARGE) | BIT(NO_STATE) | BIT(LAST_MONTH_DONE))
+#define RUN_NUMBERS (BIRTH_NUMBERS | BIT(WRONG_LIST_LENGTH) | BIT(INTAKE_TOO_LARGE))
 static const uint32_t answerable[CALLS] = {
     [READ_SITE] = BLOCK_NUMBERS | BIT(FIELD_OUTSIDE_LIMITS),
     [READ_BOOK] = BLOCK_NUMBERS | BIT(ROW_OUTSIDE_LIMITS),
     [WRITE_BLOCK] = LENGTH_NUMBERS,
-    [BIRTH] = FILE_NUMBERS | BIT(BURDEN_TOO_LARGE),
-    [MONTH] = FILE_NUMBERS | BIT(INTAKE_TOO_LARGE) | BIT(NO_STATE) | BIT(LAST_MONTH_DONE) | BIT(BURDEN_TOO_LARGE),
-    [RUN] = FILE_NUMBERS | BIT(WRONG_LIST_LENGTH) | BIT(INTAKE_TOO_LARGE) | BIT(BURDEN_TOO_LARGE),
+    [BIRTH] = BIRTH_NUMBERS,
+    [MONTH] = MONTH_NUMBERS,
+    [RUN] = RUN_NUMBERS,
+    [READ_FOODS] = BLOCK_NUMBERS | FOODS_NUMBERS,
+    [BIRTH_FOODS] = BIRTH_NUMBERS | FOODS_NUMBERS,
+    [MONTH_FOODS] = MONTH_NUMBERS | FOODS_NUMBERS,
+    [RUN_FOODS] = RUN_NUMBERS | FOODS_NUMBERS,
 };
 
 static uint64_t met[CALLS][NUMBERS];
@@ -59,33 +68,50 @@ struct calls {
     uint32_t (*birth)(const uint8_t *, size_t, const uint8_t *, size_t, uint64_t *);
     uint32_t (*month)(const uint8_t *, size_t, const uint8_t *, size_t, uint64_t *, uint32_t *);
     uint32_t (*run)(const uint8_t *, size_t, const uint8_t *, size_t, uint32_t *, size_t, uint64_t *, uint32_t *);
+    uint32_t (*read_foods)(const uint8_t *, size_t, uint32_t *);
+    uint32_t (*birth_foods)(const uint8_t *, size_t, const uint8_t *, size_t, const uint8_t *, size_t, uint64_t *);
+    uint32_t (*month_foods)(const uint8_t *, size_t, const uint8_t *, size_t, const uint8_t *, size_t, uint64_t *, uint32_t *);
+    uint32_t (*run_foods)(const uint8_t *, size_t, const uint8_t *, size_t, const uint8_t *, size_t, uint32_t *, size_t, uint64_t *,
+                          uint32_t *);
 };
 
-static const struct calls engine = {jurengate_read_site, jurengate_read_book, jurengate_write_block,
-                                    jurengate_birth,     jurengate_month,     jurengate_run};
-static const struct calls model = {model_read_site, model_read_book, model_write_block, model_birth, model_month, model_run};
+static const struct calls engine = {jurengate_read_site,   jurengate_read_book,   jurengate_write_block, jurengate_birth,
+                                    jurengate_month,       jurengate_run,         jurengate_read_foods,  jurengate_birth_foods,
+                                    jurengate_month_foods, jurengate_run_foods};
+static const struct calls model = {model_read_site, model_read_book,  model_write_block, model_birth,       model_month,
+                                   model_run,       model_read_foods, model_birth_foods, model_month_foods, model_run_foods};
 
 static uint32_t answer(const struct calls *by, uint8_t *const at[MEMORIES]) {
-    const uint8_t *site = at[SITE], *book = at[BOOK];
+    const uint8_t *site = at[SITE], *foods = at[FOODS], *book = at[BOOK];
+    size_t site_len = asked.site_len, foods_len = asked.foods_len, book_len = asked.book_len;
     uint64_t *state = (uint64_t *)at[STATE];
-    uint32_t *figure = (uint32_t *)at[FIGURE];
+    uint32_t *list = (uint32_t *)at[LIST], *figure = (uint32_t *)at[FIGURE];
     switch (asked.call) {
-    case READ_SITE: return by->read_site(site, asked.site_len, (uint32_t *)at[LIST]);
-    case READ_BOOK: return by->read_book(book, asked.book_len, (uint32_t *)at[LIST]);
-    case WRITE_BLOCK: return by->write_block(site, asked.site_len, at[LIST], asked.list_len);
-    case BIRTH: return by->birth(site, asked.site_len, book, asked.book_len, state);
-    case MONTH: return by->month(site, asked.site_len, book, asked.book_len, state, figure);
-    case RUN: return by->run(site, asked.site_len, book, asked.book_len, (uint32_t *)at[LIST], asked.list_len, state, figure);
+    case READ_SITE: return by->read_site(site, site_len, list);
+    case READ_BOOK: return by->read_book(book, book_len, list);
+    case WRITE_BLOCK: return by->write_block(site, site_len, at[LIST], asked.list_len);
+    case BIRTH: return by->birth(site, site_len, book, book_len, state);
+    case MONTH: return by->month(site, site_len, book, book_len, state, figure);
+    case RUN: return by->run(site, site_len, book, book_len, list, asked.list_len, state, figure);
+    case READ_FOODS: return by->read_foods(foods, foods_len, list);
+    case BIRTH_FOODS: return by->birth_foods(site, site_len, foods, foods_len, book, book_len, state);
+    case MONTH_FOODS: return by->month_foods(site, site_len, foods, foods_len, book, book_len, state, figure);
+    case RUN_FOODS:
+        return by->run_foods(site, site_len, foods, foods_len, book, book_len, list, asked.list_len, state, figure);
     }
     abort();
 }
+
+static int is_month(void) { return asked.call == MONTH || asked.call == MONTH_FOODS; }
+
+static int is_run(void) { return asked.call == RUN || asked.call == RUN_FOODS; }
 
 static size_t list_bytes(void) {
     switch (asked.call) {
     case READ_SITE: return JURENGATE_SITE_FIELDS * sizeof(uint32_t);
     case READ_BOOK: return JURENGATE_TABLE_NUMBERS * sizeof(uint32_t);
-    case RUN: return asked.list_len * sizeof(uint32_t);
-    default: return asked.list_len;
+    case READ_FOODS: return JURENGATE_FOODS_FIGURES * sizeof(uint32_t);
+    default: return is_run() ? asked.list_len * sizeof(uint32_t) : asked.list_len;
     }
 }
 
@@ -105,8 +131,9 @@ static void lend(enum memory which, const void *content, size_t size) {
 
 static void lend_all(void) {
     lend(SITE, asked.site, asked.site_len);
+    lend(FOODS, asked.foods, asked.foods_len);
     lend(BOOK, asked.book, asked.book_len);
-    lend(STATE, asked.call == MONTH ? asked.state : NULL, sizeof asked.state);
+    lend(STATE, is_month() ? asked.state : NULL, sizeof asked.state);
     lend(LIST, NULL, list_bytes());
     lend(FIGURE, NULL, sizeof(uint32_t));
 }
@@ -130,9 +157,9 @@ static void hold(enum memory which) {
 
 static void count(uint32_t number) {
     uint32_t months = 0;
-    if (asked.call == RUN) {
+    if (is_run()) {
         memcpy(&months, lent[FIGURE].due, sizeof months);
-    } else if (asked.call == MONTH && number != JURENGATE_NO_STATE) {
+    } else if (is_month() && number != JURENGATE_NO_STATE) {
         months = (uint32_t)asked.state[JURENGATE_STATE_MONTH] % (JURENGATE_MONTHS + 1);
     }
     met[asked.call][number]++;

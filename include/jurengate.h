@@ -1,27 +1,33 @@
 /* Jurengate: the IEUBK lead model in whole numbers, for firmware. Link libjurengate.a.
  *
- * A site file and a rate book go in; a child's blood lead at the end of months 1 to 84 comes out. docs/FORMAT.md has both files
- * byte by byte. Lead is in pg, blood lead in thousandths of ug/dL. C99, and C++ from C++11 on.
+ * A site file and a rate book go in; a child's blood lead at the end of months 1 to 84 comes out. The calls that end in _foods take
+ * a foods block too, and reckon the diet from it and not from the site file's diet figures. docs/FORMAT.md has all three byte by
+ * byte. Lead is in pg, blood lead in thousandths of ug/dL. C99, and C++ from C++11 on.
  *
  * CALLS. Nothing has to be checked before a call: it takes bytes of any length and content, and any numbers as a state, and answers
  * JURENGATE_ACCEPTED or the first refusal that holds. They are tried in this order:
  *
  *   read_site     1, 3, 4, 5, 6, 7
+ *   read_foods    1, 3, 4, 5, 6, 10, 11
  *   read_book     1, then 3, 4, 5, 6, 8 of block 0, of block 1, .. of block 16
  *   write_block   1
  *   birth         1 of either file, the site file's 3 to 7, the book's 3 to 6 and 8, 22
  *   month         1 of either file, the site file's 3 to 7, the book's 3 to 6 and 8, 20, 21, 9, 22
  *   run           1 of either file, 2, the site file's 3 to 7, the book's 3 to 6 and 8, birth's 22, then 9 and 22 month by month
  *
+ * birth_foods, month_foods and run_foods try 1 of site file or book first, and the foods block's 1, 3 to 6, 10 and 11 between the
+ * site file's 7 and the book's 3; all else is in the order of birth, month and run.
+ *
  * MONTH BY MONTH. Nothing is kept between calls: the state is all that goes from one month to the next. Each month call may have
- * another site file and another book (a yard cleaned, a family moved); the run has the same two for all its months. After an
- * accepted birth, month calls with the same files, up to the first that is refused, answer what the run answers. A state may be
- * stored and handed in again; a changed one is refused with 20 only if it is no state at all. The all-zero state that a refused
- * birth leaves is one: month 0, no lead. So look at birth's answer before the first month.
+ * another site file and another book (a yard cleaned, a family moved), and a foods block of its own or none; the run has the same
+ * files for all its months. After an accepted birth, month calls with the same files, up to the first that is refused, answer what
+ * the run answers; so do those with foods and the run with foods. A state may be stored and handed in again; a changed one is
+ * refused with 20 only if it is no state at all. The all-zero state that a refused birth leaves is one: month 0, no lead. So look
+ * at birth's answer before the first month.
  *
  * MEMORY. No pointer may be null, not even that of an empty file or list: with length 0 it may be any other address that its type
  * allows, and nothing is read or written there. Bytes may lie anywhere; the uint32_t and uint64_t memory must be aligned as its
- * type is. Memory that a call fills may not overlap any other that it is handed; the two files are only read, and may. Nothing
+ * type is. Memory that a call fills may not overlap any other that it is handed; the files are only read, and may. Nothing
  * outside the lent memory is written. The calls use no heap and have no static data, so that calls with memory of their own may
  * run at the same time, in threads or interrupts; they may share their files.
  *
@@ -40,7 +46,7 @@
 /* The version of this interface. MAJOR rises if a firmware has to change: a declaration, the meaning of a name, or an answer of
  * a call; while it is 0, MINOR does. MINOR rises if something is added, PATCH if neither is so. Files have an edition. */
 #define JURENGATE_VERSION_MAJOR 0
-#define JURENGATE_VERSION_MINOR 1
+#define JURENGATE_VERSION_MINOR 2
 #define JURENGATE_VERSION_PATCH 0
 
 /* The files. */
@@ -50,6 +56,9 @@
 #define JURENGATE_SITE_BYTES 512     /* a site file: one block */
 #define JURENGATE_SITE_FIELDS 94     /* its fields */
 #define JURENGATE_AGES 7             /* ages 0 to 6, for which a site file has ten fields each */
+#define JURENGATE_FOODS_BYTES 512    /* a foods block */
+#define JURENGATE_FOODS 15           /* its foods, for each of which it has grams at each age, and a lead figure */
+#define JURENGATE_FOODS_FIGURES 128  /* its figures: 105 grams, 15 leads, and shares and leads of four foods of one's own */
 #define JURENGATE_BOOK_BYTES 8704    /* a rate book */
 #define JURENGATE_BOOK_BLOCKS 17     /* its blocks */
 #define JURENGATE_BLOCK_ROWS 5       /* rows of a block */
@@ -63,7 +72,7 @@
 
 /* Limits. */
 #define JURENGATE_RATE_UNIT 100000000                      /* D: a book's rates are in units of 1/D a step */
-#define JURENGATE_INTAKE_MOST 1000000000                   /* pg a day of air, water, soil or dust */
+#define JURENGATE_INTAKE_MOST 1000000000                   /* pg a day of air, water, soil, dust or foods */
 #define JURENGATE_BURDEN_MOST UINT64_C(50000000000)        /* pg in the seven compartments, a step's uptake included */
 #define JURENGATE_MONTH_UPTAKE_MOST UINT64_C(180000000000) /* pg that a month can bring */
 #define JURENGATE_BLOOD_MOST 50000000                      /* the largest blood figure, thousandths of ug/dL */
@@ -75,12 +84,16 @@
 #define JURENGATE_STACK_BIRTH 11120
 #define JURENGATE_STACK_MONTH 11600
 #define JURENGATE_STACK_RUN 11400
+#define JURENGATE_STACK_READ_FOODS 2816
+#define JURENGATE_STACK_BIRTH_FOODS 13312
+#define JURENGATE_STACK_MONTH_FOODS 13824
+#define JURENGATE_STACK_RUN_FOODS 13568
 
 /* What a call answers. JURENGATE_NO_STATE: the month is over 84, the compartments are together over JURENGATE_BURDEN_MOST, or these
  * and the ledgers together over JURENGATE_BURDEN_MOST + month * JURENGATE_MONTH_UPTAKE_MOST. */
 enum jurengate_refusal {
     JURENGATE_ACCEPTED = 0,
-    JURENGATE_WRONG_LENGTH = 1,         /* site file, book, writer's body or its target */
+    JURENGATE_WRONG_LENGTH = 1,         /* site file, foods block, book, writer's body or its target */
     JURENGATE_WRONG_LIST_LENGTH = 2,    /* the run's list is not 84 long */
     JURENGATE_CHECK_WRONG = 3,          /* of a block */
     JURENGATE_EDITION_WRONG = 4,        /* of a block, not 1 */
@@ -88,7 +101,9 @@ enum jurengate_refusal {
     JURENGATE_RESERVED_NOT_ZERO = 6,    /* a byte behind a block's fields */
     JURENGATE_FIELD_OUTSIDE_LIMITS = 7, /* a site field, used or not, or the sum of the two water shares */
     JURENGATE_ROW_OUTSIDE_LIMITS = 8,   /* a row of the book */
-    JURENGATE_INTAKE_TOO_LARGE = 9,     /* air, water, soil or dust of the month's age over JURENGATE_INTAKE_MOST */
+    JURENGATE_INTAKE_TOO_LARGE = 9,     /* air, water, soil, dust or diet by foods over JURENGATE_INTAKE_MOST at the month's age */
+    JURENGATE_SHARES_TOO_LARGE = 10,    /* of a foods block: fish and game over 100 together, or another share over 100 */
+    JURENGATE_FOOD_OUTSIDE_LIMITS = 11, /* grams or a lead figure of a foods block */
     JURENGATE_NO_STATE = 20,            /* what was handed in is none */
     JURENGATE_LAST_MONTH_DONE = 21,     /* the state's month is 84 */
     JURENGATE_BURDEN_TOO_LARGE = 22     /* compartments plus uptake over JURENGATE_BURDEN_MOST, at birth or at some step */
@@ -130,6 +145,49 @@ enum jurengate_site_place {
     JURENGATE_SITE_PASSIVE_ALTERNATE = 91,  /* %; at most 100 */
     JURENGATE_SITE_SATURATION = 92,         /* of the gut at 24 months, pg a day; at least 1,000,000, at most 500,000,000 */
     JURENGATE_SITE_MOTHER = 93              /* mother's blood lead, thousandths of ug/dL; at most 100,000 */
+};
+
+/* Places of a foods block's figures; the fifteen foods are in the order of equations E-4d to E-4r. Their grams are those of age 0;
+ * the same for another age stands at the place plus JURENGATE_FOODS * age. */
+enum jurengate_foods_place {
+    JURENGATE_FOODS_BEVERAGE_GRAMS = 0,          /* g a day; at most 10,000 */
+    JURENGATE_FOODS_BREAD_GRAMS = 1,             /* g a day; at most 10,000 */
+    JURENGATE_FOODS_CANNED_FRUIT_GRAMS = 2,      /* g a day; at most 10,000 */
+    JURENGATE_FOODS_CANNED_VEGETABLE_GRAMS = 3,  /* g a day; at most 10,000 */
+    JURENGATE_FOODS_CANDY_GRAMS = 4,             /* g a day; at most 10,000 */
+    JURENGATE_FOODS_DAIRY_GRAMS = 5,             /* g a day; at most 10,000 */
+    JURENGATE_FOODS_FRESH_FRUIT_GRAMS = 6,       /* g a day; at most 10,000 */
+    JURENGATE_FOODS_FRESH_VEGETABLE_GRAMS = 7,   /* g a day; at most 10,000 */
+    JURENGATE_FOODS_FORMULA_GRAMS = 8,           /* g a day; at most 10,000 */
+    JURENGATE_FOODS_INFANT_FOOD_GRAMS = 9,       /* g a day; at most 10,000 */
+    JURENGATE_FOODS_JUICE_GRAMS = 10,            /* g a day; at most 10,000 */
+    JURENGATE_FOODS_MEAT_GRAMS = 11,             /* g a day; at most 10,000 */
+    JURENGATE_FOODS_NUTS_GRAMS = 12,             /* g a day; at most 10,000 */
+    JURENGATE_FOODS_PASTA_GRAMS = 13,            /* g a day; at most 10,000 */
+    JURENGATE_FOODS_SAUCE_GRAMS = 14,            /* g a day; at most 10,000 */
+    JURENGATE_FOODS_BEVERAGE_LEAD = 105,         /* pg/g; at most 1,000,000 */
+    JURENGATE_FOODS_BREAD_LEAD = 106,            /* pg/g; at most 1,000,000 */
+    JURENGATE_FOODS_CANNED_FRUIT_LEAD = 107,     /* pg/g; at most 1,000,000 */
+    JURENGATE_FOODS_CANNED_VEGETABLE_LEAD = 108, /* pg/g; at most 1,000,000 */
+    JURENGATE_FOODS_CANDY_LEAD = 109,            /* pg/g; at most 1,000,000 */
+    JURENGATE_FOODS_DAIRY_LEAD = 110,            /* pg/g; at most 1,000,000 */
+    JURENGATE_FOODS_FRESH_FRUIT_LEAD = 111,      /* pg/g; at most 1,000,000 */
+    JURENGATE_FOODS_FRESH_VEGETABLE_LEAD = 112,  /* pg/g; at most 1,000,000 */
+    JURENGATE_FOODS_FORMULA_LEAD = 113,          /* pg/g; at most 1,000,000 */
+    JURENGATE_FOODS_INFANT_FOOD_LEAD = 114,      /* pg/g; at most 1,000,000 */
+    JURENGATE_FOODS_JUICE_LEAD = 115,            /* pg/g; at most 1,000,000 */
+    JURENGATE_FOODS_MEAT_LEAD = 116,             /* pg/g; at most 1,000,000 */
+    JURENGATE_FOODS_NUTS_LEAD = 117,             /* pg/g; at most 1,000,000 */
+    JURENGATE_FOODS_PASTA_LEAD = 118,            /* pg/g; at most 1,000,000 */
+    JURENGATE_FOODS_SAUCE_LEAD = 119,            /* pg/g; at most 1,000,000 */
+    JURENGATE_FOODS_HOME_VEGETABLE_SHARE = 120,  /* of the canned and fresh vegetable together, %; at most 100 */
+    JURENGATE_FOODS_HOME_FRUIT_SHARE = 121,      /* of the canned and fresh fruit together, %; at most 100 */
+    JURENGATE_FOODS_FISH_SHARE = 122,            /* of the meat, %; with game's at most 100 */
+    JURENGATE_FOODS_GAME_SHARE = 123,            /* of the meat, %; with fish's at most 100 */
+    JURENGATE_FOODS_HOME_VEGETABLE_LEAD = 124,   /* pg/g; at most 1,000,000 */
+    JURENGATE_FOODS_HOME_FRUIT_LEAD = 125,       /* pg/g; at most 1,000,000 */
+    JURENGATE_FOODS_FISH_LEAD = 126,             /* pg/g; at most 1,000,000 */
+    JURENGATE_FOODS_GAME_LEAD = 127              /* pg/g; at most 1,000,000 */
 };
 
 /* Places of a row's numbers. Rates are in units of 1/D a step. The six a and au are together at most 64 D; each b, with the c of
@@ -182,6 +240,9 @@ extern "C" {
 /* Reads a site file into its fields; zeros if it is refused (1, 3 to 7). */
 uint32_t jurengate_read_site(const uint8_t *site, size_t site_len, uint32_t fields[JURENGATE_SITE_FIELDS]);
 
+/* Reads a foods block into its figures; zeros if it is refused (1, 3 to 6, 10, 11). */
+uint32_t jurengate_read_foods(const uint8_t *foods, size_t foods_len, uint32_t figures[JURENGATE_FOODS_FIGURES]);
+
 /* Reads a rate book into its 85 rows of 23 numbers; zeros if it is refused (1, 3 to 6, 8). */
 uint32_t jurengate_read_book(const uint8_t *book, size_t book_len, uint32_t table[JURENGATE_TABLE_NUMBERS]);
 
@@ -203,6 +264,20 @@ uint32_t jurengate_month(const uint8_t *site, size_t site_len, const uint8_t *bo
  * says how many were done before; it is 84 if it is accepted. What state and months held before does not matter. */
 uint32_t jurengate_run(const uint8_t *site, size_t site_len, const uint8_t *book, size_t book_len,
                        uint32_t *blood, size_t blood_len, uint64_t state[JURENGATE_STATE_WORDS], uint32_t *months);
+
+/* The same three with a foods block: they answer and fill what those above do, with the diet of the foods in place of the site
+ * file's diet figures, which are checked all the same. Birth takes nothing from the foods but their refusals. Birth is refused with
+ * 1, 3 to 8, 10, 11, 22; a month with 1, 3 to 11, 20 to 22; the run with 1 to 11, 22. An empty foods block has a wrong length (1):
+ * without one, the three calls above are due. */
+uint32_t jurengate_birth_foods(const uint8_t *site, size_t site_len, const uint8_t *foods, size_t foods_len,
+                               const uint8_t *book, size_t book_len, uint64_t state[JURENGATE_STATE_WORDS]);
+
+uint32_t jurengate_month_foods(const uint8_t *site, size_t site_len, const uint8_t *foods, size_t foods_len,
+                               const uint8_t *book, size_t book_len, uint64_t state[JURENGATE_STATE_WORDS], uint32_t *blood);
+
+uint32_t jurengate_run_foods(const uint8_t *site, size_t site_len, const uint8_t *foods, size_t foods_len,
+                             const uint8_t *book, size_t book_len, uint32_t *blood, size_t blood_len,
+                             uint64_t state[JURENGATE_STATE_WORDS], uint32_t *months);
 
 #ifdef __cplusplus
 }

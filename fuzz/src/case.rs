@@ -9,14 +9,16 @@ use jurengate_model::state::{State, MONTHS};
 
 /// Longest site file that is lent.
 const SITE_ROOM: usize = 2 * BLOCK_BYTES;
+/// Longest foods block that is lent.
+const FOODS_ROOM: usize = 2 * BLOCK_BYTES;
 /// Longest book that is lent.
 const BOOK_ROOM: usize = 19 * BLOCK_BYTES;
 /// From this first byte on, the bytes of an input stand for themselves.
-const RAW_FROM: u8 = 0xF0;
+const RAW_FROM: u8 = 0xE0;
 /// Edits that one input may make.
 const EDITS: usize = 48;
 
-/// The six calls, numbered as `enum call` of case.h.
+/// The calls, numbered as `enum call` of case.h.
 #[derive(Clone, Copy, PartialEq, Eq)]
 #[repr(u32)]
 enum Call {
@@ -26,14 +28,20 @@ enum Call {
     Birth,
     Month,
     Run,
+    ReadFoods,
+    BirthFoods,
+    MonthFoods,
+    RunFoods,
 }
 
 /// A run takes as long as 84 months, so it is drawn seldom.
-const CALLS: [Call; 16] = {
+const CALLS: [Call; 32] = {
     use Call::*;
     [
         Month, ReadSite, Birth, Month, WriteBlock, ReadBook, Birth, ReadSite, Month, Month, Birth, ReadBook,
-        Month, Run, Month, Month,
+        Month, Run, Month, Month, MonthFoods, ReadFoods, BirthFoods, MonthFoods, MonthFoods, ReadFoods,
+        BirthFoods, MonthFoods, BirthFoods, MonthFoods, ReadFoods, MonthFoods, BirthFoods, RunFoods,
+        MonthFoods, MonthFoods,
     ]
 };
 
@@ -50,10 +58,15 @@ macro_rules! sample {
 const SAMPLES: [(&[u8], &[u8]); 4] =
     [sample!("default"), sample!("heavy"), sample!("refused-intake"), sample!("refused-burden")];
 
+/// The sample foods block, which every sample card takes.
+const SAMPLE_FOODS: &[u8] = include_bytes!("../../samples/foods/foods.lkb");
+
 /// What a call is made on.
 pub struct Case {
     /// The site file; the writer takes it without its last four bytes.
     pub site: Vec<u8>,
+    /// The foods block.
+    pub foods: Vec<u8>,
     /// The rate book.
     pub book: Vec<u8>,
     /// The state handed to the month call.
@@ -68,10 +81,12 @@ pub struct LentCase {
     call: u32,
     sides: u32,
     site_len: usize,
+    foods_len: usize,
     book_len: usize,
     list_len: usize,
     state: [u64; 11],
     site: [u8; SITE_ROOM],
+    foods: [u8; FOODS_ROOM],
     book: [u8; BOOK_ROOM],
 }
 
@@ -94,8 +109,8 @@ pub unsafe extern "C" fn fuzz_case_of(input: *const u8, size: usize, lent: *mut 
 
 /// A card and a state chosen, then edited to the input's end.
 fn built(tape: &mut Tape) -> Case {
-    let (site, book) = card(tape);
-    let mut case = Case { site, book, state: state(tape), list_off: 0 };
+    let (site, foods, book) = card(tape);
+    let mut case = Case { site, foods, book, state: state(tape), list_off: 0 };
     for _ in 0..EDITS {
         if tape.is_spent() {
             break;
@@ -106,18 +121,18 @@ fn built(tape: &mut Tape) -> Case {
 }
 
 /// A sample card, or a random one with up to three faults.
-fn card(tape: &mut Tape) -> (Vec<u8>, Vec<u8>) {
+fn card(tape: &mut Tape) -> (Vec<u8>, Vec<u8>, Vec<u8>) {
     let range = match tape.index(8) {
         5 => Range::Near,
         6 => Range::Wide,
         7 => Range::Limits,
         sample => {
             let (site, book) = SAMPLES[sample % SAMPLES.len()];
-            return (site.to_vec(), book.to_vec());
+            return (site.to_vec(), SAMPLE_FOODS.to_vec(), book.to_vec());
         }
     };
     let mut generator = Generator::new(tape.word().into());
-    random::card(&mut generator, range, tape.index(4))
+    random::card_with_foods(&mut generator, range, tape.index(4))
 }
 
 /// An empty child, a true state, one at a burden, or any.
@@ -132,16 +147,17 @@ fn state(tape: &mut Tape) -> State {
     }
 }
 
-/// What is left of the input, cut in two; the blocks are sealed if it says so.
+/// What is left of the input, cut in three; the blocks are sealed if it says so.
 fn raw(tape: &mut Tape) -> Case {
     let seals = tape.byte();
     let list_off = tape.byte() as i8;
     let state = state(tape);
-    let cut = usize::from(tape.word());
+    let (site_len, foods_len) = (usize::from(tape.word()), usize::from(tape.word()));
     let bytes = tape.rest();
-    let (site, book) = bytes.split_at(cut.min(bytes.len()));
-    let mut case = Case { site: site.to_vec(), book: book.to_vec(), state, list_off };
-    for (bit, file) in [(1, &mut case.site), (2, &mut case.book)] {
+    let (site, rest) = bytes.split_at(site_len.min(bytes.len()));
+    let (foods, book) = rest.split_at(foods_len.min(rest.len()));
+    let mut case = Case { site: site.to_vec(), foods: foods.to_vec(), book: book.to_vec(), state, list_off };
+    for (bit, file) in [(1, &mut case.site), (2, &mut case.book), (4, &mut case.foods)] {
         if seals & bit != 0 {
             file.chunks_exact_mut(BLOCK_BYTES).for_each(cards::seal);
         }
@@ -154,6 +170,7 @@ fn lend(case: Case, call: Call, lent: &mut LentCase) {
         if call == Call::WriteBlock { &case.site[..case.site.len().saturating_sub(4)] } else { &case.site };
     let list_due = if call == Call::WriteBlock { BLOCK_BYTES } else { MONTHS };
     lent.site_len = copy(site, &mut lent.site);
+    lent.foods_len = copy(&case.foods, &mut lent.foods);
     lent.book_len = copy(&case.book, &mut lent.book);
     lent.list_len = list_due.saturating_add_signed(case.list_off.into());
     lent.state = case.state.to_numbers();

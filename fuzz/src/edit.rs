@@ -5,6 +5,7 @@ use crate::tape::Tape;
 use jurengate_model::block::{self, BLOCK_BYTES, EDITION_AT, NUMBER_AT};
 use jurengate_model::book::{self, Row, BLOCK_ROWS, BOOK_BLOCKS, BOOK_BYTES, ROW_FIELDS};
 use jurengate_model::cards;
+use jurengate_model::foods::{local, Foods, FOODS, GRAMS_MOST, LEAD_MOST, LOCAL_FOODS};
 use jurengate_model::random::{self, INTAKES};
 use jurengate_model::site::{self, AGES, SITE_FIELDS};
 use jurengate_model::state::State;
@@ -19,7 +20,7 @@ const UNSEALED_FROM: u8 = 0xE0;
 pub fn edit(tape: &mut Tape, case: &mut Case) {
     let what = tape.byte();
     let seal = what < UNSEALED_FROM;
-    match what % 16 {
+    match what % 20 {
         0 => edit_block(tape, case, seal, put_word),
         1 => edit_block(tape, case, seal, put_header),
         2 => edit_block(tape, case, seal, turn_bits),
@@ -31,15 +32,20 @@ pub fn edit(tape: &mut Tape, case: &mut Case) {
         8 | 9 => put_state(tape, case),
         10 | 11 => add_state(tape, case),
         12 | 13 => edit_site(tape, case, seal, put_limit),
-        _ => edit_block(tape, case, seal, put_row_number),
+        14 | 15 => edit_block(tape, case, seal, put_row_number),
+        16 => edit_foods(tape, case, seal, put_food_limit),
+        17 => edit_foods(tape, case, seal, put_food_figure),
+        18 => edit_foods(tape, case, seal, put_shares),
+        _ => edit_foods(tape, case, seal, break_diet),
     }
 }
 
-/// Edits a block of the site file or of the book, if it is there whole.
+/// Edits the site file, the foods block or a block of the book, if it is there whole.
 fn edit_block(tape: &mut Tape, case: &mut Case, seal: bool, change: fn(&mut Tape, &mut [u8])) {
-    let (file, number) = match tape.index(2 * BOOK_BLOCKS) {
+    let (file, number) = match tape.index(3 * BOOK_BLOCKS) {
         number if number < BOOK_BLOCKS => (&mut case.book, number),
-        _ => (&mut case.site, 0),
+        number if number < 2 * BOOK_BLOCKS => (&mut case.site, 0),
+        _ => (&mut case.foods, 0),
     };
     let Some(block) = file.chunks_exact_mut(BLOCK_BYTES).nth(number) else { return };
     change(tape, block);
@@ -54,6 +60,17 @@ fn edit_site(tape: &mut Tape, case: &mut Case, seal: bool, change: fn(&mut Tape,
     let mut fields = std::array::from_fn(|index| block::field(block, index));
     change(tape, &mut fields);
     fields.iter().enumerate().for_each(|(index, field)| cards::put_field(block, index, *field));
+    if seal {
+        cards::seal(block);
+    }
+}
+
+/// Edits the figures of the foods block, if it has room for them.
+fn edit_foods(tape: &mut Tape, case: &mut Case, seal: bool, change: fn(&mut Tape, &mut Foods)) {
+    let Some(block) = case.foods.get_mut(..BLOCK_BYTES) else { return };
+    let mut foods = Foods::of_block(block);
+    change(tape, &mut foods);
+    foods.put(block);
     if seal {
         cards::seal(block);
     }
@@ -129,10 +146,62 @@ fn break_intake(tape: &mut Tape, fields: &mut [u32; SITE_FIELDS]) {
     }
 }
 
+/// An amount at one age or at all, or a lead, near its limit.
+fn put_food_limit(tape: &mut Tape, foods: &mut Foods) {
+    let (food, near) = (tape.index(FOODS + LOCAL_FOODS), i32::from(tape.byte() as i8));
+    let grams = GRAMS_MOST.wrapping_add_signed(near as i16);
+    match tape.index(AGES + 2) {
+        age if age < AGES => foods.grams[age][food % FOODS] = grams,
+        AGES => foods.grams.iter_mut().for_each(|age| age[food % FOODS] = grams),
+        _ => *lead_mut(foods, food) = LEAD_MOST.wrapping_add_signed(near),
+    }
+}
+
+/// An amount at one age or a lead, of any size.
+fn put_food_figure(tape: &mut Tape, foods: &mut Foods) {
+    let (food, number) = (tape.index(FOODS + LOCAL_FOODS), tape.number());
+    match tape.index(2 * AGES) {
+        age if age < AGES => foods.grams[age][food % FOODS] = number as u16,
+        _ => *lead_mut(foods, food) = number as u32,
+    }
+}
+
+/// The lead of a food, the fifteen first, then the local four.
+fn lead_mut(foods: &mut Foods, food: usize) -> &mut u32 {
+    if food < FOODS {
+        &mut foods.leads[food]
+    } else {
+        &mut foods.local_leads[food - FOODS]
+    }
+}
+
+/// One share, or fish and game so that they are as much as asked for together, in 32 bits.
+fn put_shares(tape: &mut Tape, foods: &mut Foods) {
+    let (local, number) = (tape.index(LOCAL_FOODS), tape.number() as u32);
+    foods.local_shares[local] = number;
+    if tape.index(2) == 1 {
+        foods.local_shares[local::FISH] = u32::from(tape.byte()).wrapping_sub(number);
+        foods.local_shares[local::GAME] = number;
+    }
+}
+
+/// The diet of an age past 10^9, or just within it.
+fn break_diet(tape: &mut Tape, foods: &mut Foods) {
+    let (eaten, age) = (random::all_eaten(), tape.index(AGES));
+    let eaten = eaten[tape.index(eaten.len())];
+    match tape.index(2) {
+        0 => random::break_diet(foods, eaten, age),
+        _ => random::eat_alone(foods, eaten, age, 1_000, 1_000_000),
+    }
+}
+
 /// Another length: near the one it has, any, or the one due.
 fn resize(tape: &mut Tape, case: &mut Case) {
-    let (file, due) =
-        if tape.index(2) == 0 { (&mut case.site, BLOCK_BYTES) } else { (&mut case.book, BOOK_BYTES) };
+    let (file, due) = match tape.index(3) {
+        0 => (&mut case.site, BLOCK_BYTES),
+        1 => (&mut case.foods, BLOCK_BYTES),
+        _ => (&mut case.book, BOOK_BYTES),
+    };
     let length = match tape.index(4) {
         0 => file.len().saturating_add_signed((tape.byte() as i8).into()),
         1 => usize::from(tape.word()) % (BOOK_BYTES + BLOCK_BYTES),
@@ -141,15 +210,19 @@ fn resize(tape: &mut Tape, case: &mut Case) {
     file.resize(length, 0);
 }
 
-/// Two blocks of the book change places, or one takes that of the site file.
+/// Two blocks of the book change places, or one takes that of the site file or of the foods.
 fn swap_blocks(tape: &mut Tape, case: &mut Case) {
-    let (first, second) = (tape.index(BOOK_BLOCKS), tape.index(BOOK_BLOCKS + 1));
-    let Some((before, after)) = case.book.split_at_mut_checked(BLOCK_BYTES * first.max(second)) else {
+    let (first, second) = (tape.index(BOOK_BLOCKS), tape.index(BOOK_BLOCKS + 2));
+    let later = first.max(second).min(BOOK_BLOCKS);
+    let Some((before, after)) = case.book.split_at_mut_checked(BLOCK_BYTES * later) else {
         return;
     };
     let one = before.chunks_exact_mut(BLOCK_BYTES).nth(first.min(second));
-    let other =
-        if second == BOOK_BLOCKS { case.site.get_mut(..BLOCK_BYTES) } else { after.get_mut(..BLOCK_BYTES) };
+    let other = match second {
+        ..BOOK_BLOCKS => after.get_mut(..BLOCK_BYTES),
+        BOOK_BLOCKS => case.site.get_mut(..BLOCK_BYTES),
+        _ => case.foods.get_mut(..BLOCK_BYTES),
+    };
     if let (Some(one), Some(other)) = (one, other) {
         one.swap_with_slice(other);
     }

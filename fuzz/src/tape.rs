@@ -1,7 +1,7 @@
 //! A fuzz input read from front to end; noughts once it is spent.
 
 /// Numbers at which the rules turn; an input names one of them and a small distance.
-const TURNS: [u64; 24] = [
+const TURNS: [u64; 25] = [
     0,
     24,
     84,
@@ -14,6 +14,7 @@ const TURNS: [u64; 24] = [
     10_000,
     50_000,
     60_000,
+    1 << 16,
     100_000,
     1_000_000,
     10_000_000,

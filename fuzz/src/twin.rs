@@ -5,14 +5,20 @@
 #![allow(clippy::missing_safety_doc)]
 
 use jurengate_model::book::{Table, BOOK_ROWS, ROW_FIELDS};
+use jurengate_model::foods::FOODS_FIGURES;
 use jurengate_model::refusal::number_of;
 use jurengate_model::site::SITE_FIELDS;
 use jurengate_model::state::State;
-use jurengate_model::{block, book, engine, site};
+use jurengate_model::{block, book, engine, foods, site};
 use std::slice::{from_raw_parts, from_raw_parts_mut};
 
 /// Eleven numbers of a state.
 type Numbers = [u64; 11];
+
+/// The bytes of three files.
+unsafe fn files<'a>(lent: [(*const u8, usize); 3]) -> [&'a [u8]; 3] {
+    lent.map(|(bytes, length)| unsafe { from_raw_parts(bytes, length) })
+}
 
 /// The model's site reader.
 #[no_mangle]
@@ -91,6 +97,75 @@ pub unsafe extern "C" fn model_run(
 ) -> u32 {
     let list = unsafe { from_raw_parts_mut(blood, blood_len) };
     let answer = unsafe { engine::run(from_raw_parts(site, site_len), from_raw_parts(book, book_len), list) };
+    unsafe { (*state, *months) = (answer.state.to_numbers(), answer.months) };
+    answer.number
+}
+
+/// The model's foods reader.
+#[no_mangle]
+pub unsafe extern "C" fn model_read_foods(
+    foods: *const u8,
+    foods_len: usize,
+    figures: *mut [u32; FOODS_FIGURES],
+) -> u32 {
+    let read = foods::read_foods(unsafe { from_raw_parts(foods, foods_len) });
+    unsafe { *figures = read.unwrap_or_default().figures() };
+    number_of(&read)
+}
+
+/// The model's birth with a foods block.
+#[no_mangle]
+pub unsafe extern "C" fn model_birth_foods(
+    site: *const u8,
+    site_len: usize,
+    foods: *const u8,
+    foods_len: usize,
+    book: *const u8,
+    book_len: usize,
+    state: *mut Numbers,
+) -> u32 {
+    let [site, foods, book] = unsafe { files([(site, site_len), (foods, foods_len), (book, book_len)]) };
+    let answer = engine::birth_foods(site, Some(foods), book);
+    unsafe { *state = answer.state.to_numbers() };
+    answer.number
+}
+
+/// The model's month with a foods block.
+#[no_mangle]
+pub unsafe extern "C" fn model_month_foods(
+    site: *const u8,
+    site_len: usize,
+    foods: *const u8,
+    foods_len: usize,
+    book: *const u8,
+    book_len: usize,
+    state: *mut Numbers,
+    blood: *mut u32,
+) -> u32 {
+    let [site, foods, book] = unsafe { files([(site, site_len), (foods, foods_len), (book, book_len)]) };
+    let before = State::from_numbers(unsafe { *state });
+    let answer = engine::month_foods(site, Some(foods), book, &before);
+    unsafe { (*state, *blood) = (answer.state.to_numbers(), answer.blood) };
+    answer.number
+}
+
+/// The model's run with a foods block.
+#[no_mangle]
+pub unsafe extern "C" fn model_run_foods(
+    site: *const u8,
+    site_len: usize,
+    foods: *const u8,
+    foods_len: usize,
+    book: *const u8,
+    book_len: usize,
+    blood: *mut u32,
+    blood_len: usize,
+    state: *mut Numbers,
+    months: *mut u32,
+) -> u32 {
+    let [site, foods, book] = unsafe { files([(site, site_len), (foods, foods_len), (book, book_len)]) };
+    let list = unsafe { from_raw_parts_mut(blood, blood_len) };
+    let answer = engine::run_foods(site, Some(foods), book, list);
     unsafe { (*state, *months) = (answer.state.to_numbers(), answer.months) };
     answer.number
 }

@@ -43,8 +43,8 @@ pub fn field(block: &[u8], index: usize) -> u32 {
     word32(block, FIELDS_AT + FIELD_BYTES * index)
 }
 
-/// Refusals 3 to 6 in their order, for a block of 512 bytes with `fields` fields.
-pub fn inspect(block: &[u8], number_due: u16, fields: usize) -> Result<(), Refusal> {
+/// Refusals 3 to 6 in their order, for a block of 512 bytes whose reserved bytes begin at `reserved_at`.
+pub fn inspect(block: &[u8], number_due: u16, reserved_at: usize) -> Result<(), Refusal> {
     if word32(block, BODY_BYTES) != check_of(block) {
         return Err(Refusal::Check);
     }
@@ -54,8 +54,7 @@ pub fn inspect(block: &[u8], number_due: u16, fields: usize) -> Result<(), Refus
     if word16(block, NUMBER_AT) != number_due {
         return Err(Refusal::Number);
     }
-    let reserved = &block[FIELDS_AT + FIELD_BYTES * fields..BODY_BYTES];
-    if reserved.iter().any(|&byte| byte != 0) {
+    if block[reserved_at..BODY_BYTES].iter().any(|&byte| byte != 0) {
         return Err(Refusal::Reserved);
     }
     Ok(())

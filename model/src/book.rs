@@ -1,6 +1,6 @@
 //! The rate book: 17 blocks of five month rows, months 0 to 84.
 
-use crate::block::{self, BLOCK_BYTES};
+use crate::block::{self, BLOCK_BYTES, FIELDS_AT, FIELD_BYTES};
 use crate::refusal::Refusal;
 use crate::state::TISSUES;
 
@@ -16,6 +16,8 @@ pub const BOOK_ROWS: usize = BOOK_BLOCKS * BLOCK_ROWS;
 pub const ROW_FIELDS: usize = 23;
 /// Fields in a book block.
 pub const BLOCK_FIELDS: usize = BLOCK_ROWS * ROW_FIELDS;
+/// Where a book block's reserved bytes begin.
+pub const RESERVED_AT: usize = FIELDS_AT + FIELD_BYTES * BLOCK_FIELDS;
 /// Rates are in units of 1/D a step.
 pub const D: u128 = 100_000_000;
 /// Highest sum of the rates out of plasma.
@@ -155,7 +157,7 @@ pub fn row_fields(block: &[u8], row: usize) -> RowFields {
 
 /// Refusals 3 to 6 and 8 of block `number`, then its five rows.
 fn read_block(block: &[u8], number: usize) -> Result<Vec<Row>, Refusal> {
-    block::inspect(block, number as u16, BLOCK_FIELDS)?;
+    block::inspect(block, number as u16, RESERVED_AT)?;
     let rows: Vec<Row> = (0..BLOCK_ROWS).map(|row| Row::of_fields(&row_fields(block, row))).collect();
     if rows.iter().all(Row::within_limits) {
         Ok(rows)

@@ -1,4 +1,4 @@
-//! Writers: sealed blocks, site files and rate books from bare fields.
+//! Writers: sealed blocks, site files, foods blocks and rate books from bare fields.
 
 pub mod curves;
 pub mod published;
@@ -7,6 +7,7 @@ use crate::block::{
     write_block, BLOCK_BYTES, BODY_BYTES, EDITION, EDITION_AT, FIELDS_AT, FIELD_BYTES, NUMBER_AT,
 };
 use crate::book::{RowFields, BLOCK_ROWS, BOOK_BYTES, BOOK_ROWS};
+use crate::foods::{Foods, FOODS_NUMBER};
 use crate::site::{SITE_FIELDS, SITE_NUMBER};
 
 /// Makes the check of a 512-byte block anew.
@@ -36,6 +37,14 @@ pub fn put_field(block: &mut [u8], index: usize, value: u32) {
 /// A site file; limits are not checked here.
 pub fn site_file(fields: &[u32; SITE_FIELDS]) -> Vec<u8> {
     block_of(SITE_NUMBER, fields)
+}
+
+/// A foods block; limits are not checked here.
+pub fn foods_file(foods: &Foods) -> Vec<u8> {
+    let mut block = block_of(FOODS_NUMBER, &[]);
+    foods.put(&mut block);
+    seal(&mut block);
+    block
 }
 
 /// A rate book from 85 rows; limits are not checked here.

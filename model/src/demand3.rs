@@ -83,8 +83,13 @@ pub struct MonthFlow {
 }
 
 /// Walks the month after `state`, holding every step to the margin.
-pub fn audit_month(site: &[u8], book: &[u8], state: &State) -> Result<(State, MonthFlow), Refusal> {
-    let (site, book) = read_files(site, book)?;
+pub fn audit_month(
+    site: &[u8],
+    foods: Option<&[u8]>,
+    book: &[u8],
+    state: &State,
+) -> Result<(State, MonthFlow), Refusal> {
+    let (site, book) = read_files(site, foods, book)?;
     let exact = ExactRow::of(&book.rows[state.month as usize + 1]);
     let mut flow = MonthFlow::default();
     let (end, _) = walk_month(&site, &book, state, &mut |step| flow.count(&exact, step))?;
@@ -105,8 +110,8 @@ impl MonthFlow {
 }
 
 /// Thirty days of the uptake that the month after `month` takes from these files.
-pub fn month_uptake(site: &[u8], book: &[u8], month: u64) -> Result<u128, Refusal> {
-    let (site, book) = read_files(site, book)?;
+pub fn month_uptake(site: &[u8], foods: Option<&[u8]>, book: &[u8], month: u64) -> Result<u128, Refusal> {
+    let (site, book) = read_files(site, foods, book)?;
     Ok(MONTH_DAYS * day_uptake(&site, &book, month as usize + 1)?)
 }
 

@@ -1,7 +1,8 @@
-//! The three calls: birth, month and run, on the bytes of the two files.
+//! The three calls: birth, month and run, on the bytes of the two files and of a foods block, if there is one.
 
 use crate::block::BLOCK_BYTES;
 use crate::book::{read_book, Book, Row, BOOK_BYTES};
+use crate::foods::read_foods;
 use crate::kinetics::{self, birth_compartments, blood_figure, step_uptake, Stepped, DAY_STEPS, MONTH_DAYS};
 use crate::refusal::{Refusal, ACCEPTED};
 use crate::site::{read_site, Site};
@@ -39,20 +40,28 @@ pub struct RunAnswer {
     pub months: u32,
 }
 
-/// Both files read, refusals 1 and 3 to 8; `list` stands where 2 is due.
-fn read_both(site: &[u8], book: &[u8], list: Result<(), Refusal>) -> Result<(Site, Book), Refusal> {
+/// The files read, refusals 1, 3 to 8, 10 and 11; `list` stands where 2 is due.
+fn read_all(
+    site: &[u8],
+    foods: Option<&[u8]>,
+    book: &[u8],
+    list: Result<(), Refusal>,
+) -> Result<(Site, Book), Refusal> {
+    // A wrong length of the foods block is met where the block is read, after the site.
     if site.len() != BLOCK_BYTES || book.len() != BOOK_BYTES {
         return Err(Refusal::Length);
     }
     list?;
-    let fields = read_site(site)?;
-    let book = read_book(book)?;
-    Ok((Site::of_fields(&fields), book))
+    let mut site = Site::of_fields(&read_site(site)?);
+    if let Some(foods) = foods {
+        site = site.with_foods(&read_foods(foods)?);
+    }
+    Ok((site, read_book(book)?))
 }
 
-/// Both files of a birth or month call read.
-pub fn read_files(site: &[u8], book: &[u8]) -> Result<(Site, Book), Refusal> {
-    read_both(site, book, Ok(()))
+/// The files of a birth or month call read; the site has the diet that the call goes by.
+pub fn read_files(site: &[u8], foods: Option<&[u8]>, book: &[u8]) -> Result<(Site, Book), Refusal> {
+    read_all(site, foods, book, Ok(()))
 }
 
 /// The newborn of accepted files, or refusal 22.
@@ -124,7 +133,12 @@ fn step_month(site: &Site, book: &Book, state: &State) -> Result<(State, u32), R
 
 /// The birth call.
 pub fn birth(site: &[u8], book: &[u8]) -> BirthAnswer {
-    match read_files(site, book).and_then(|(site, book)| newborn(&site, &book)) {
+    birth_foods(site, None, book)
+}
+
+/// The birth call with a foods block, if there is one.
+pub fn birth_foods(site: &[u8], foods: Option<&[u8]>, book: &[u8]) -> BirthAnswer {
+    match read_files(site, foods, book).and_then(|(site, book)| newborn(&site, &book)) {
         Ok(state) => BirthAnswer { number: ACCEPTED, state },
         Err(refusal) => BirthAnswer { number: refusal.number(), state: State::default() },
     }
@@ -141,15 +155,20 @@ fn inspect_state(state: &State) -> Result<(), Refusal> {
     Ok(())
 }
 
-fn try_month(site: &[u8], book: &[u8], state: &State) -> Result<(State, u32), Refusal> {
-    let (site, book) = read_files(site, book)?;
+fn try_month(site: &[u8], foods: Option<&[u8]>, book: &[u8], state: &State) -> Result<(State, u32), Refusal> {
+    let (site, book) = read_files(site, foods, book)?;
     inspect_state(state)?;
     step_month(&site, &book, state)
 }
 
 /// The month call.
 pub fn month(site: &[u8], book: &[u8], state: &State) -> MonthAnswer {
-    match try_month(site, book, state) {
+    month_foods(site, None, book, state)
+}
+
+/// The month call with a foods block, if there is one.
+pub fn month_foods(site: &[u8], foods: Option<&[u8]>, book: &[u8], state: &State) -> MonthAnswer {
+    match try_month(site, foods, book, state) {
         Ok((state, blood)) => MonthAnswer { number: ACCEPTED, state, blood },
         Err(refusal) => MonthAnswer { number: refusal.number(), state: *state, blood: 0 },
     }
@@ -157,10 +176,15 @@ pub fn month(site: &[u8], book: &[u8], state: &State) -> MonthAnswer {
 
 /// The whole run: birth and 84 months, the list filled month by month.
 pub fn run(site: &[u8], book: &[u8], blood: &mut [u32]) -> RunAnswer {
+    run_foods(site, None, book, blood)
+}
+
+/// The whole run with a foods block, if there is one.
+pub fn run_foods(site: &[u8], foods: Option<&[u8]>, book: &[u8], blood: &mut [u32]) -> RunAnswer {
     let list = if blood.len() == MONTHS { Ok(()) } else { Err(Refusal::BloodList) };
     let mut done = RunAnswer { number: ACCEPTED, state: State::default(), months: 0 };
     let outcome =
-        read_both(site, book, list).and_then(|(site, book)| run_months(&site, &book, blood, &mut done));
+        read_all(site, foods, book, list).and_then(|(site, book)| run_months(&site, &book, blood, &mut done));
     if let Err(refusal) = outcome {
         done.number = refusal.number();
     }

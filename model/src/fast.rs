@@ -6,10 +6,11 @@
 //! since bi/Ei ≤ 1/2, d ≥ D + ai/2, so Mi × D + ai × p ≤ 10^19.
 
 use crate::block::{BLOCK_BYTES, BODY_BYTES, EDITION, EDITION_AT, FIELDS_AT, FIELD_BYTES, NUMBER_AT};
-use crate::book::{self, column, RowFields, BLOCK_FIELDS, BLOCK_ROWS, BOOK_BYTES, BOOK_ROWS, ROW_FIELDS};
+use crate::book::{self, column, RowFields, BLOCK_ROWS, BOOK_BYTES, BOOK_ROWS, ROW_FIELDS};
 use crate::engine::{BirthAnswer, MonthAnswer, RunAnswer};
+use crate::foods::{self, food, local, FOODS, FOODS_FIGURES, FOODS_NUMBER, LOCAL_FOODS};
 use crate::refusal::{Refusal, ACCEPTED};
-use crate::site::{place, AGES, SATURATION_LEAST, SHARES_MOST, SITE_FIELDS, SITE_NUMBER};
+use crate::site::{self, place, AGES, SATURATION_LEAST, SHARES_MOST, SITE_FIELDS, SITE_NUMBER};
 use crate::state::{self, compartment, State, COMPARTMENTS, LEDGERS, MONTHS, MONTH_LIMIT, TISSUES};
 use crate::uptake;
 
@@ -64,7 +65,29 @@ const fn site_most() -> [u32; SITE_FIELDS] {
 }
 
 type Fields = [u32; SITE_FIELDS];
+type Figures = [u32; FOODS_FIGURES];
+/// Diet by age, pg/day.
+type Diets = [u64; AGES];
 type Rows = [RowFields; BOOK_ROWS];
+
+/// Where the leads, the local shares and the local leads begin among the figures of a foods block.
+const LEADS: usize = AGES * FOODS;
+const SHARES: usize = LEADS + FOODS;
+const LOCAL_LEADS: usize = SHARES + LOCAL_FOODS;
+
+/// The foods that are eaten whole, no part of them local.
+const WHOLE_FOODS: [usize; 10] = [
+    food::BEVERAGE,
+    food::BREAD,
+    food::CANDY,
+    food::DAIRY,
+    food::FORMULA,
+    food::INFANT,
+    food::JUICE,
+    food::NUTS,
+    food::PASTA,
+    food::SAUCE,
+];
 
 fn word16(bytes: &[u8], at: usize) -> u16 {
     u16::from_le_bytes(bytes[at..at + 2].try_into().unwrap())
@@ -79,7 +102,7 @@ fn field(block: &[u8], index: usize) -> u32 {
 }
 
 /// Refusals 3 to 6.
-fn inspect(block: &[u8; BLOCK_BYTES], number: u16, fields: usize) -> Result<(), Refusal> {
+fn inspect(block: &[u8; BLOCK_BYTES], number: u16, reserved_at: usize) -> Result<(), Refusal> {
     let mut check = 0u32;
     for (position, pair) in (1u32..).zip(block[..BODY_BYTES].chunks_exact(2)) {
         check += position * u32::from(u16::from_le_bytes([pair[0], pair[1]]));
@@ -93,14 +116,14 @@ fn inspect(block: &[u8; BLOCK_BYTES], number: u16, fields: usize) -> Result<(), 
     if word16(block, NUMBER_AT) != number {
         return Err(Refusal::Number);
     }
-    if block[FIELDS_AT + FIELD_BYTES * fields..BODY_BYTES].iter().any(|&byte| byte != 0) {
+    if block[reserved_at..BODY_BYTES].iter().any(|&byte| byte != 0) {
         return Err(Refusal::Reserved);
     }
     Ok(())
 }
 
 fn read_site(block: &[u8; BLOCK_BYTES]) -> Result<Fields, Refusal> {
-    inspect(block, SITE_NUMBER, SITE_FIELDS)?;
+    inspect(block, SITE_NUMBER, site::RESERVED_AT)?;
     let fields: Fields = std::array::from_fn(|index| field(block, index));
     let over = fields.iter().zip(&SITE_MOST).any(|(field, most)| field > most);
     if over
@@ -110,6 +133,56 @@ fn read_site(block: &[u8; BLOCK_BYTES]) -> Result<Fields, Refusal> {
         return Err(Refusal::SiteLimits);
     }
     Ok(fields)
+}
+
+/// The foods reader: refusals 1, 3 to 6, 10 and 11.
+pub fn read_foods(foods: &[u8]) -> Result<Figures, Refusal> {
+    let block: &[u8; BLOCK_BYTES] = foods.try_into().map_err(|_| Refusal::Length)?;
+    inspect(block, FOODS_NUMBER, foods::RESERVED_AT)?;
+    let mut figures = [0; FOODS_FIGURES];
+    let (grams, fields) = figures.split_at_mut(LEADS);
+    for (index, grams) in grams.iter_mut().enumerate() {
+        *grams = word16(block, FIELDS_AT + 2 * index).into();
+    }
+    for (index, field) in fields.iter_mut().enumerate() {
+        *field = word32(block, foods::LEADS_AT + FIELD_BYTES * index);
+    }
+    let share = |local: usize| figures[SHARES + local];
+    // Two shares of 32 bits can pass 32 bits together.
+    if u64::from(share(local::FISH)) + u64::from(share(local::GAME)) > 100
+        || share(local::VEGETABLE) > 100
+        || share(local::FRUIT) > 100
+    {
+        return Err(Refusal::FoodShares);
+    }
+    let lead_over = |&lead: &u32| lead > 1_000_000;
+    if figures[..LEADS].iter().any(|&grams| grams > 10_000)
+        || figures[LEADS..SHARES].iter().any(lead_over)
+        || figures[LOCAL_LEADS..].iter().any(lead_over)
+    {
+        return Err(Refusal::FoodLimits);
+    }
+    Ok(figures)
+}
+
+/// What the foods give at an age; at most 1.9×10^11 pg.
+fn diet(figures: &Figures, age: usize) -> u64 {
+    let at = |index: usize| u64::from(figures[index]);
+    let grams = |food: usize| at(FOODS * age + food);
+    let lead = |food: usize| at(LEADS + food) * grams(food);
+    let share = |local: usize| at(SHARES + local);
+    let taken = |local: usize, grams: u64| share(local) * grams * at(LOCAL_LEADS + local) / 100;
+    let (vegetable, fruit) = (100 - share(local::VEGETABLE), 100 - share(local::FRUIT));
+    let meat = (100 - share(local::FISH) - share(local::GAME)) * lead(food::MEAT) / 100;
+    let bought = vegetable * lead(food::CANNED_VEGETABLE) / 200
+        + vegetable * lead(food::FRESH_VEGETABLE) / 200
+        + fruit * lead(food::CANNED_FRUIT) / 200
+        + fruit * lead(food::FRESH_FRUIT) / 200;
+    let grown = taken(local::VEGETABLE, grams(food::CANNED_VEGETABLE) + grams(food::FRESH_VEGETABLE))
+        + taken(local::FRUIT, grams(food::CANNED_FRUIT) + grams(food::FRESH_FRUIT));
+    let caught = taken(local::FISH, grams(food::MEAT)) + taken(local::GAME, grams(food::MEAT));
+    let whole = WHOLE_FOODS.iter().map(|&food| lead(food)).sum::<u64>();
+    meat + bought + grown + caught + whole
 }
 
 /// The row limits.
@@ -133,7 +206,7 @@ fn read_book(book: &[u8; BOOK_BYTES]) -> Result<Box<Rows>, Refusal> {
     let mut rows = Box::new([[0; ROW_FIELDS]; BOOK_ROWS]);
     for (number, block) in book.chunks_exact(BLOCK_BYTES).enumerate() {
         let block: &[u8; BLOCK_BYTES] = block.try_into().unwrap();
-        inspect(block, number as u16, BLOCK_FIELDS)?;
+        inspect(block, number as u16, book::RESERVED_AT)?;
         let block_rows = &mut rows[BLOCK_ROWS * number..BLOCK_ROWS * (number + 1)];
         for (index, row) in block_rows.iter_mut().enumerate() {
             for (column, value) in row.iter_mut().enumerate() {
@@ -147,20 +220,36 @@ fn read_book(book: &[u8; BOOK_BYTES]) -> Result<Box<Rows>, Refusal> {
     Ok(rows)
 }
 
-/// Both files, with the run's list length looked at where refusal 2 is due.
-fn read(site: &[u8], book: &[u8], list: usize) -> Result<(Fields, Box<Rows>), Refusal> {
+/// The files of a call, read.
+struct Card {
+    fields: Fields,
+    diets: Diets,
+    rows: Box<Rows>,
+}
+
+/// The files, with the run's list length looked at where refusal 2 is due.
+fn read(site: &[u8], foods: Option<&[u8]>, book: &[u8], list: usize) -> Result<Card, Refusal> {
     let (Ok(site), Ok(book)) = (site.try_into(), book.try_into()) else {
         return Err(Refusal::Length);
     };
     if list != MONTHS {
         return Err(Refusal::BloodList);
     }
-    Ok((read_site(site)?, read_book(book)?))
+    let fields = read_site(site)?;
+    let diets = match foods {
+        None => std::array::from_fn(|age| fields[place::DIET + age].into()),
+        Some(foods) => {
+            let figures = read_foods(foods)?;
+            std::array::from_fn(|age| diet(&figures, age))
+        }
+    };
+    Ok(Card { fields, diets, rows: read_book(book)? })
 }
 
 /// T of a month, or refusal 9.
-fn day_uptake(f: &Fields, rows: &Rows, month: usize) -> Result<u64, Refusal> {
+fn day_uptake(f: &Fields, diets: &Diets, rows: &Rows, month: usize) -> Result<u64, Refusal> {
     let age = (month - 1) / 12;
+    let diet = diets[age];
     let at = |index: usize| u64::from(f[index]);
     let aged = |from: usize| at(from + age);
     let (out, weight_soil) = (aged(place::HOURS_OUT), at(place::WEIGHT_SOIL));
@@ -182,12 +271,12 @@ fn day_uptake(f: &Fields, rows: &Rows, month: usize) -> Result<u64, Refusal> {
     };
     let soil_eaten = aged(place::SOIL) * aged(place::EATEN) * weight_soil / 100;
     let dust_eaten = dust * aged(place::EATEN) * (100 - weight_soil) / 100;
-    if air.max(water).max(soil_eaten).max(dust_eaten) > INTAKE_MOST {
+    if air.max(water).max(soil_eaten).max(dust_eaten).max(diet) > INTAKE_MOST {
         return Err(Refusal::Intake);
     }
     let weight = |month: usize| u64::from(rows[month][column::BODY]);
     let saturation = at(place::SATURATION) * weight(month) / weight(uptake::SATURATION_MONTH);
-    let eaten = [aged(place::DIET), water, dust_eaten, soil_eaten, aged(place::ALTERNATE)];
+    let eaten = [diet, water, dust_eaten, soil_eaten, aged(place::ALTERNATE)];
     let q: [u64; 5] = std::array::from_fn(|medium| at(place::ABSORBED + medium) * eaten[medium] / 100);
     let total = saturation + q.iter().sum::<u64>();
     let mut uptake = aged(place::AIR_ABSORBED) * air / 100;
@@ -250,10 +339,10 @@ fn step(
 }
 
 /// The 180 steps of the month after `state`'s.
-fn step_month(f: &Fields, rows: &Rows, mut state: State) -> Result<(State, u32), Refusal> {
+fn step_month(f: &Fields, diets: &Diets, rows: &Rows, mut state: State) -> Result<(State, u32), Refusal> {
     let month = state.month as usize + 1;
     let row = &rows[month];
-    let t = day_uptake(f, rows, month)?;
+    let t = day_uptake(f, diets, rows, month)?;
     let shares: [u64; 6] = std::array::from_fn(|k| t * (k as u64 + 1) / 6 - t * k as u64 / 6);
     let rates = rates(row);
     for _day in 0..30 {
@@ -319,7 +408,12 @@ fn inspect_state(state: &State) -> Result<(), Refusal> {
 
 /// The birth call.
 pub fn birth(site: &[u8], book: &[u8]) -> BirthAnswer {
-    match read(site, book, MONTHS).and_then(|(fields, rows)| newborn(&fields, &rows)) {
+    birth_foods(site, None, book)
+}
+
+/// The birth call with a foods block, if there is one.
+pub fn birth_foods(site: &[u8], foods: Option<&[u8]>, book: &[u8]) -> BirthAnswer {
+    match read(site, foods, book, MONTHS).and_then(|card| newborn(&card.fields, &card.rows)) {
         Ok(state) => BirthAnswer { number: ACCEPTED, state },
         Err(refusal) => BirthAnswer { number: refusal.number(), state: State::default() },
     }
@@ -327,9 +421,14 @@ pub fn birth(site: &[u8], book: &[u8]) -> BirthAnswer {
 
 /// The month call.
 pub fn month(site: &[u8], book: &[u8], state: &State) -> MonthAnswer {
-    let outcome = read(site, book, MONTHS).and_then(|(fields, rows)| {
+    month_foods(site, None, book, state)
+}
+
+/// The month call with a foods block, if there is one.
+pub fn month_foods(site: &[u8], foods: Option<&[u8]>, book: &[u8], state: &State) -> MonthAnswer {
+    let outcome = read(site, foods, book, MONTHS).and_then(|Card { fields, diets, rows }| {
         inspect_state(state)?;
-        step_month(&fields, &rows, *state)
+        step_month(&fields, &diets, &rows, *state)
     });
     match outcome {
         Ok((state, blood)) => MonthAnswer { number: ACCEPTED, state, blood },
@@ -339,11 +438,16 @@ pub fn month(site: &[u8], book: &[u8], state: &State) -> MonthAnswer {
 
 /// The whole run.
 pub fn run(site: &[u8], book: &[u8], blood: &mut [u32]) -> RunAnswer {
+    run_foods(site, None, book, blood)
+}
+
+/// The whole run with a foods block, if there is one.
+pub fn run_foods(site: &[u8], foods: Option<&[u8]>, book: &[u8], blood: &mut [u32]) -> RunAnswer {
     let mut done = RunAnswer { number: ACCEPTED, state: State::default(), months: 0 };
-    let outcome = read(site, book, blood.len()).and_then(|(fields, rows)| {
+    let outcome = read(site, foods, book, blood.len()).and_then(|Card { fields, diets, rows }| {
         done.state = newborn(&fields, &rows)?;
         for figure in blood.iter_mut() {
-            (done.state, *figure) = step_month(&fields, &rows, done.state)?;
+            (done.state, *figure) = step_month(&fields, &diets, &rows, done.state)?;
             done.months += 1;
         }
         Ok(())

@@ -5,6 +5,7 @@
 
 use crate::book::{Table, BOOK_ROWS, ROW_FIELDS};
 use crate::engine::{BirthAnswer, MonthAnswer, RunAnswer};
+use crate::foods::FOODS_FIGURES;
 use crate::site::SITE_FIELDS;
 use crate::state::State;
 
@@ -42,6 +43,38 @@ extern "C" {
         state: *mut u64,
         months: *mut u32,
     ) -> u32;
+    fn jurengate_read_foods(foods: *const u8, foods_len: usize, figures: *mut u32) -> u32;
+    fn jurengate_birth_foods(
+        site: *const u8,
+        site_len: usize,
+        foods: *const u8,
+        foods_len: usize,
+        book: *const u8,
+        book_len: usize,
+        state: *mut u64,
+    ) -> u32;
+    fn jurengate_month_foods(
+        site: *const u8,
+        site_len: usize,
+        foods: *const u8,
+        foods_len: usize,
+        book: *const u8,
+        book_len: usize,
+        state: *mut u64,
+        blood: *mut u32,
+    ) -> u32;
+    fn jurengate_run_foods(
+        site: *const u8,
+        site_len: usize,
+        foods: *const u8,
+        foods_len: usize,
+        book: *const u8,
+        book_len: usize,
+        blood: *mut u32,
+        blood_len: usize,
+        state: *mut u64,
+        months: *mut u32,
+    ) -> u32;
 }
 
 /// The engine's site reader: its number and the fields, zeros if refused.
@@ -60,6 +93,14 @@ pub fn read_book(book: &[u8]) -> (u32, Table) {
     (number, table)
 }
 
+/// The engine's foods reader: its number and the figures, zeros if refused.
+pub fn read_foods(foods: &[u8]) -> (u32, [u32; FOODS_FIGURES]) {
+    let mut figures = [FILLER; FOODS_FIGURES];
+    // SAFETY: the pointers span `foods` and 128 writable figures.
+    let number = unsafe { jurengate_read_foods(foods.as_ptr(), foods.len(), figures.as_mut_ptr()) };
+    (number, figures)
+}
+
 /// The engine's block writer.
 pub fn write_block(body: &[u8], target: &mut [u8]) -> u32 {
     // SAFETY: the pointers and lengths are those of the two slices, which do not overlap.
@@ -72,6 +113,25 @@ pub fn birth(site: &[u8], book: &[u8]) -> BirthAnswer {
     // SAFETY: the pointers span the two slices and eleven writable numbers.
     let number =
         unsafe { jurengate_birth(site.as_ptr(), site.len(), book.as_ptr(), book.len(), state.as_mut_ptr()) };
+    BirthAnswer { number, state: State::from_numbers(state) }
+}
+
+/// The engine's birth with a foods block, or the one without if there is none.
+pub fn birth_foods(site: &[u8], foods: Option<&[u8]>, book: &[u8]) -> BirthAnswer {
+    let Some(foods) = foods else { return birth(site, book) };
+    let mut state = [WIDE_FILLER; 11];
+    // SAFETY: the pointers span the three slices and eleven writable numbers.
+    let number = unsafe {
+        jurengate_birth_foods(
+            site.as_ptr(),
+            site.len(),
+            foods.as_ptr(),
+            foods.len(),
+            book.as_ptr(),
+            book.len(),
+            state.as_mut_ptr(),
+        )
+    };
     BirthAnswer { number, state: State::from_numbers(state) }
 }
 
@@ -93,6 +153,27 @@ pub fn month(site: &[u8], book: &[u8], state: &State) -> MonthAnswer {
     MonthAnswer { number, state: State::from_numbers(numbers), blood }
 }
 
+/// The engine's month with a foods block, or the one without if there is none.
+pub fn month_foods(site: &[u8], foods: Option<&[u8]>, book: &[u8], state: &State) -> MonthAnswer {
+    let Some(foods) = foods else { return month(site, book, state) };
+    let mut numbers = state.to_numbers();
+    let mut blood = FILLER;
+    // SAFETY: the pointers span the three slices, eleven writable numbers and one figure.
+    let number = unsafe {
+        jurengate_month_foods(
+            site.as_ptr(),
+            site.len(),
+            foods.as_ptr(),
+            foods.len(),
+            book.as_ptr(),
+            book.len(),
+            numbers.as_mut_ptr(),
+            &mut blood,
+        )
+    };
+    MonthAnswer { number, state: State::from_numbers(numbers), blood }
+}
+
 /// The engine's run over a lent list.
 pub fn run(site: &[u8], book: &[u8], blood: &mut [u32]) -> RunAnswer {
     let mut state = [WIDE_FILLER; 11];
@@ -102,6 +183,29 @@ pub fn run(site: &[u8], book: &[u8], blood: &mut [u32]) -> RunAnswer {
         jurengate_run(
             site.as_ptr(),
             site.len(),
+            book.as_ptr(),
+            book.len(),
+            blood.as_mut_ptr(),
+            blood.len(),
+            state.as_mut_ptr(),
+            &mut months,
+        )
+    };
+    RunAnswer { number, state: State::from_numbers(state), months }
+}
+
+/// The engine's run with a foods block, or the one without if there is none, over a lent list.
+pub fn run_foods(site: &[u8], foods: Option<&[u8]>, book: &[u8], blood: &mut [u32]) -> RunAnswer {
+    let Some(foods) = foods else { return run(site, book, blood) };
+    let mut state = [WIDE_FILLER; 11];
+    let mut months = FILLER;
+    // SAFETY: the pointers span the slices, eleven writable numbers and one count.
+    let number = unsafe {
+        jurengate_run_foods(
+            site.as_ptr(),
+            site.len(),
+            foods.as_ptr(),
+            foods.len(),
             book.as_ptr(),
             book.len(),
             blood.as_mut_ptr(),

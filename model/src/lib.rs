@@ -1,5 +1,6 @@
 //! An independent model of the counter box's engine, written from document 01
-//! ("The counter box: IEUBK in whole numbers") and the agency's papers alone.
+//! ("The counter box: IEUBK in whole numbers"), request 1 of document 02 and the
+//! agency's papers alone.
 //!
 //! The model is made to be read beside the paper, not to be fast: every sum is
 //! taken in 128 bits, and `cargo test` checks each for overflow. `fast` is a second,
@@ -19,6 +20,7 @@ pub mod fast;
 #[cfg(feature = "engine")]
 pub mod ffi;
 pub mod figures;
+pub mod foods;
 pub mod kinetics;
 pub mod printout;
 pub mod random;

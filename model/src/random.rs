@@ -1,12 +1,15 @@
-//! Random sites and books, the same in every run; `damage` has their faults, `states` has random states.
+//! Random sites and books, the same in every run; `foods` has random foods blocks, `damage` faults, `states` random states.
 
 mod damage;
+mod foods;
 mod generator;
 mod states;
 
 pub use damage::{
-    break_intake, break_row, damaged, fault, file_faults, row_faults, Fault, Intake, RowFault, INTAKES,
+    break_intake, break_row, damaged, damaged_with_foods, fault, fault_with_foods, file_faults, row_faults,
+    Fault, Intake, RowFault, Turn, INTAKES,
 };
+pub use foods::{all_eaten, break_diet, eat_alone, foods, foods_fault, foods_faults, Eaten, FoodsFault};
 pub use generator::Generator;
 pub use states::{any_numbers, any_state, burdened, no_state, state};
 
@@ -182,6 +185,33 @@ pub fn card(generator: &mut Generator, range: Range, faults: usize) -> (Vec<u8>,
     let (fields, rows) = (site_fields(generator, range), rows(generator, range));
     let faults: Vec<Fault> = (0..faults).map(|_| fault(generator)).collect();
     damaged(generator, &fields, &rows, &faults)
+}
+
+/// The files of a random card with a foods block, with this many faults in them: site, foods, book.
+pub fn card_with_foods(
+    generator: &mut Generator,
+    range: Range,
+    faults: usize,
+) -> (Vec<u8>, Vec<u8>, Vec<u8>) {
+    let (fields, rows) = (site_fields(generator, range), rows(generator, range));
+    let foods = foods(generator, range);
+    let faults: Vec<Fault> = (0..faults).map(|_| fault_with_foods(generator)).collect();
+    damaged_with_foods(generator, &fields, &foods, &rows, &faults)
+}
+
+/// The files of a random card with this many faults in them, in one of two with a foods block: site, foods, book.
+pub fn card_of_either_kind(
+    generator: &mut Generator,
+    range: Range,
+    faults: usize,
+) -> (Vec<u8>, Option<Vec<u8>>, Vec<u8>) {
+    if generator.once_in(2) {
+        let (site, foods, book) = card_with_foods(generator, range, faults);
+        (site, Some(foods), book)
+    } else {
+        let (site, book) = card(generator, range, faults);
+        (site, None, book)
+    }
 }
 
 /// A mother's blood lead and a row 0 whose newborn has exactly this burden, pg.

@@ -1,11 +1,11 @@
-//! The refusal numbers of document 01, "Calls and refusal numbers".
+//! The refusal numbers of document 01, "Calls and refusal numbers", and of request 1.
 
 use std::fmt;
 
 /// Why a call was refused; the discriminant is the paper's number.
 #[derive(Clone, Copy, Debug, PartialEq, Eq)]
 pub enum Refusal {
-    /// A wrong length: site, book, writer's body or target.
+    /// A wrong length: site, foods, book, writer's body or target.
     Length = 1,
     /// The blood list is not 84 long.
     BloodList = 2,
@@ -21,8 +21,12 @@ pub enum Refusal {
     SiteLimits = 7,
     /// A book row is outside its limits.
     BookLimits = 8,
-    /// An air, water, soil or dust intake of this month's age is over 10^9.
+    /// An air, water, soil or dust intake of this month's age, or its diet from foods, is over 10^9.
     Intake = 9,
+    /// The shares of fish and game together, or that of home-grown vegetable or fruit, are over 100.
+    FoodShares = 10,
+    /// An amount of a food is over 10,000, or a lead over 1,000,000.
+    FoodLimits = 11,
     /// What was handed in is no state.
     NoState = 20,
     /// The state's month is 84 already.
@@ -52,7 +56,9 @@ impl fmt::Display for Refusal {
             Refusal::Reserved => "a reserved byte is not zero",
             Refusal::SiteLimits => "a figure is outside its limits",
             Refusal::BookLimits => "a row of the book is outside its limits",
-            Refusal::Intake => "an intake of air, water, soil or dust is over its limit",
+            Refusal::Intake => "an intake of air, water, soil, dust or foods is over its limit",
+            Refusal::FoodShares => "fish and game together, or home-grown vegetable or fruit, are over 100 %",
+            Refusal::FoodLimits => "an amount of a food, or the lead in it, is over its limit",
             Refusal::NoState => "what was handed in is no state",
             Refusal::LastMonth => "the state's month is 84 already",
             Refusal::Burden => "the lead in the body is over its limit",

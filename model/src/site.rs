@@ -1,10 +1,13 @@
 //! The site file: one block of 94 fields, decoded into a scenario.
 
-use crate::block::{self, BLOCK_BYTES};
+use crate::block::{self, BLOCK_BYTES, FIELDS_AT, FIELD_BYTES};
+use crate::foods::Foods;
 use crate::refusal::Refusal;
 
 /// Fields in a site file.
 pub const SITE_FIELDS: usize = 94;
+/// Where a site file's reserved bytes begin.
+pub const RESERVED_AT: usize = FIELDS_AT + FIELD_BYTES * SITE_FIELDS;
 /// Ages 0 to 6.
 pub const AGES: usize = 7;
 /// The site block's number.
@@ -115,7 +118,7 @@ pub fn within_limits(fields: &[u32; SITE_FIELDS]) -> bool {
 
 /// Refusals 3 to 7 on a block of the right length.
 fn read_block(block: &[u8]) -> Result<[u32; SITE_FIELDS], Refusal> {
-    block::inspect(block, SITE_NUMBER, SITE_FIELDS)?;
+    block::inspect(block, SITE_NUMBER, RESERVED_AT)?;
     let mut fields = [0; SITE_FIELDS];
     for (index, value) in fields.iter_mut().enumerate() {
         *value = block::field(block, index);
@@ -146,7 +149,7 @@ pub struct AgeFigures {
     pub litres: u128,
     /// Air absorption, %.
     pub air_absorbed: u128,
-    /// Diet, pg/day.
+    /// Diet, pg/day: the site file's, or what the foods give.
     pub diet: u128,
     /// Water drunk, mL/day.
     pub water_amount: u128,
@@ -233,6 +236,14 @@ impl Site {
             saturation: at(place::SATURATION),
             mother: at(place::MOTHER),
         }
+    }
+
+    /// The site with the diet of a foods block at every age, whatever its own diet is.
+    pub fn with_foods(mut self, foods: &Foods) -> Site {
+        for (age, figures) in self.ages.iter_mut().enumerate() {
+            figures.diet = foods.diet(age);
+        }
+        self
     }
 }
 

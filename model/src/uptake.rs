@@ -4,7 +4,7 @@ use crate::book::Book;
 use crate::refusal::Refusal;
 use crate::site::{AgeFigures, DustSource, Site, WaterSource, EATEN_MEDIA};
 
-/// Highest intake of air, water, soil or dust, pg/day.
+/// Highest intake of air, water, soil, dust or diet, pg/day.
 pub const INTAKE_MOST: u128 = 1_000_000_000;
 /// The row whose body weight the saturation is quoted for.
 pub const SATURATION_MONTH: usize = 24;
@@ -68,7 +68,8 @@ pub fn intakes(site: &Site, age: usize) -> Result<Intakes, Refusal> {
     let water = water_intake(figures.water_amount, &site.water_source);
     let soil = soil_intake(figures.soil, figures.eaten, site.weight_soil);
     let dust = dust_intake(dust_figure(figures, &site.dust_source), figures.eaten, site.weight_soil);
-    if [air, water, soil, dust].iter().any(|&intake| intake > INTAKE_MOST) {
+    // Only a diet from foods can be over: a site's own is within its field's limit.
+    if [air, water, soil, dust, figures.diet].iter().any(|&intake| intake > INTAKE_MOST) {
         return Err(Refusal::Intake);
     }
     Ok(Intakes { air, eaten: [figures.diet, water, dust, soil, figures.alternate] })

@@ -3,7 +3,8 @@
 use jurengate_model::book::{column, read_book};
 use jurengate_model::cards::{curves, published};
 use jurengate_model::engine::run;
-use jurengate_model::figures::{site_fields, text_of, Mistake, KEYS};
+use jurengate_model::figures::{read, site_fields, text_of, Card, Figures, Mistake, KEYS};
+use jurengate_model::foods::{food, local};
 use jurengate_model::random::{self, Generator};
 use jurengate_model::site::{place, read_site, Site, AGES};
 use jurengate_model::state::MONTHS;
@@ -77,6 +78,17 @@ fn published_intakes_come_out() {
     check_intakes("air, absorbed", "within 0.0011", 0.0011, air, |taken| 0.32 * taken.air as f64);
 }
 
+/// The lead of all foods as E-4 has it, before the shares and halves of E-5: the default diet, to what whole grams lose.
+#[test]
+fn published_foods_make_the_published_diet() {
+    let foods = published::foods();
+    for (age, diet) in published::DIET.iter().enumerate() {
+        let grams = foods.grams[age].iter().zip(foods.leads);
+        let lead: u32 = grams.map(|(&grams, lead)| u32::from(grams) * lead).sum();
+        assert!(lead.abs_diff(*diet) <= 12_000, "age {age}: {lead}");
+    }
+}
+
 /// The 84 figures of the default card.
 fn default_blood() -> [u32; MONTHS] {
     let mut blood = [0; MONTHS];
@@ -126,11 +138,12 @@ fn the_default_child_has_a_common_child_s_blood_lead() {
 fn an_empty_text_is_the_published_site() {
     assert_eq!(site_fields(""), Ok(published::fields()));
     assert_eq!(site_fields("# nothing\n\n   \n"), Ok(published::fields()));
+    assert_eq!(read("").map(|figures| figures.card), Ok(Card::published()));
 }
 
 #[test]
-fn the_keys_cover_the_94_fields_once() {
-    let text = text_of(&published::fields());
+fn the_keys_cover_the_figures_once() {
+    let text = text_of(&Card::published());
     for key in &KEYS {
         let lines =
             text.lines().filter(|line| line.trim_start_matches("# ").split(' ').next() == Some(key.name));
@@ -139,9 +152,39 @@ fn the_keys_cover_the_94_fields_once() {
     let mut generator = Generator::new(61);
     for _ in 0..200 {
         let range = random::range(&mut generator);
-        let fields = random::site_fields(&mut generator, range);
-        assert_eq!(site_fields(&text_of(&fields)), Ok(fields));
+        let site = random::site_fields(&mut generator, range);
+        for foods in [None, Some(random::foods(&mut generator, range))] {
+            let card = Card { site, foods };
+            assert_eq!(read(&text_of(&card)).map(|figures| figures.card), Ok(card));
+        }
     }
+}
+
+/// Even if none of the foods counts and each has its default.
+#[test]
+fn a_text_of_foods_makes_them() {
+    let mut card = Card { foods: Some(published::foods()), ..Card::published() };
+    card.site[place::ABSORBED] = 0;
+    let text = text_of(&card);
+    assert_eq!(read(&text).map(|figures| figures.card), Ok(card));
+    assert_eq!(text.lines().filter(|line| line.contains("_grams = ") && !line.starts_with('#')).count(), 1);
+}
+
+#[test]
+fn foods_that_a_text_leaves_out_are_the_published_ones() {
+    let read = |text: &str| -> Figures { read(text).expect("figures") };
+    let figures = read("meat_grams = 1 2 3 4 5 6 10000\nmeat_lead = 0.000001\ngame_share = 100 # all of it");
+    let mut due = published::foods();
+    for (at_age, grams) in due.grams.iter_mut().zip([1, 2, 3, 4, 5, 6, 10_000]) {
+        at_age[food::MEAT] = grams;
+    }
+    due.leads[food::MEAT] = 1;
+    due.local_shares[local::GAME] = 100;
+    assert_eq!(figures.card, Card { foods: Some(due), ..Card::published() });
+    due = published::foods();
+    due.local_leads = [500_000, 250_000, 125_000, 1_000_000];
+    let text = "home_vegetable_lead = 0.5\nhome_fruit_lead = 0.25\nfish_lead = 0.125\ngame_lead = 1";
+    assert_eq!(read(text).card.foods, Some(due));
 }
 
 #[test]
@@ -180,6 +223,20 @@ fn mistakes_are_told_with_their_line() {
         (
             "\nfirst_draw_share = 90",
             "line 2: first_draw_share and fountain_share are 105 % together, over 100 %",
+        ),
+        ("meat = 35", "line 1: `meat` is not a key; did you mean `meat_grams`?"),
+        ("fish_lid = 0.1", "line 1: `fish_lid` is not a key; did you mean `fish_lead`?"),
+        ("meat_grams = 35 64", "line 1: meat_grams takes one figure, or seven for ages 0 to 6, not 2"),
+        ("meat_lead = 0.1 0.2", "line 1: meat_lead takes one figure, not 2"),
+        ("meat_grams = 34.8", "line 1: meat_grams: `34.8` must be a whole number"),
+        ("candy_grams = 10001", "line 1: candy_grams: 10001 is over the limit of 10000 g/day"),
+        ("candy_grams = 65537", "line 1: candy_grams: 65537 is over the limit of 10000 g/day"),
+        ("meat_lead = 1.000001", "line 1: meat_lead: 1.000001 is over the limit of 1 µg/g"),
+        ("meat_lead = 0.0000001", "line 1: meat_lead: `0.0000001` has more than 6 decimals"),
+        ("home_fruit_share = 101", "line 1: home_fruit_share: 101 is over the limit of 100 %"),
+        (
+            "fish_share = 60\ngame_share = 41",
+            "line 2: fish_share and game_share are 101 % together, over 100 %",
         ),
     ];
     for (text, told) in cases {

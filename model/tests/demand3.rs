@@ -1,12 +1,12 @@
-//! Demand 3 on numbers: every step of many months beside the exact solution, and
-//! the balance between every two month ends of lists with refused calls in them.
+//! Demand 3 on numbers: every step of many months beside the exact solution, and the balance between
+//! every two month ends of lists whose calls have their own files, foods or none, refused ones among them.
 
 #[path = "support/month.rs"]
 mod month;
 
 use jurengate_model::book::{column, Row, D};
-use jurengate_model::cards::{curves, published};
-use jurengate_model::demand3::{Ends, ExactRow};
+use jurengate_model::cards::{self, curves, published};
+use jurengate_model::demand3::{month_uptake, Ends, ExactRow};
 use jurengate_model::kinetics::step;
 use jurengate_model::random::{self, Generator, Range};
 use jurengate_model::state::{sum, State, BURDEN_LIMIT};
@@ -18,15 +18,17 @@ use std::collections::BTreeSet;
 #[derive(Default)]
 struct Counts {
     months: usize,
+    /// Months accepted with a foods block.
+    with_foods: usize,
     /// Months accepted right after a refused call.
     resumed: usize,
     refusals: BTreeSet<u32>,
 }
 
-/// The files of one call, now and then with a fault in them.
-fn call_files(generator: &mut Generator, range: Range) -> (Vec<u8>, Vec<u8>) {
+/// The files of one call, with a foods block or without, now and then with a fault in them.
+fn call_files(generator: &mut Generator, range: Range) -> (Vec<u8>, Option<Vec<u8>>, Vec<u8>) {
     let faults = usize::from(generator.once_in(5));
-    random::card(generator, range, faults)
+    random::card_of_either_kind(generator, range, faults)
 }
 
 /// A list of month calls from `start`, each with its own files; a refused one leaves the state.
@@ -37,9 +39,10 @@ fn check_list(generator: &mut Generator, start: State, calls: usize, range: Rang
     let (mut state, mut after_refusal) = (start, false);
     ends.note(state, 0);
     for _ in 0..calls {
-        let (site, book) = call_files(generator, range);
-        let answer = fast::month(&site, &book, &state);
-        assert_eq!(engine::month(&site, &book, &state), answer);
+        let (site, foods, book) = call_files(generator, range);
+        let foods = foods.as_deref();
+        let answer = fast::month_foods(&site, foods, &book, &state);
+        assert_eq!(engine::month_foods(&site, foods, &book, &state), answer);
         if answer.number != 0 {
             assert_eq!(answer.state, state);
             counts.refusals.insert(answer.number);
@@ -47,7 +50,8 @@ fn check_list(generator: &mut Generator, start: State, calls: usize, range: Rang
             continue;
         }
         counts.resumed += usize::from(std::mem::take(&mut after_refusal));
-        ends.note(answer.state, check_month(&site, &book, &state, &answer.state));
+        counts.with_foods += usize::from(foods.is_some());
+        ends.note(answer.state, check_month(&site, foods, &book, &state, &answer.state));
         (counts.months, state) = (counts.months + 1, answer.state);
     }
     assert_eq!(ends.balance(), Ok(counts.months * (counts.months + 1) / 2), "every two ends balance");
@@ -62,7 +66,7 @@ fn the_default_child_through_all_84_months() {
     ends.note(state, 0);
     for _ in 0..84 {
         let end = fast::month(&site, &book, &state).state;
-        ends.note(end, check_month(&site, &book, &state, &end));
+        ends.note(end, check_month(&site, None, &book, &state, &end));
         state = end;
     }
     assert_eq!(ends.balance(), Ok(85 * 84 / 2));
@@ -71,20 +75,38 @@ fn the_default_child_through_all_84_months() {
 #[test]
 fn random_lists_of_births_and_months() {
     let mut generator = Generator::new(31);
-    let (mut months, mut resumed, mut refusals) = (0, 0, BTreeSet::new());
+    let (mut months, mut with_foods, mut resumed, mut refusals) = (0, 0, 0, BTreeSet::new());
     for turn in 0..24 {
         let range = Range::of_turn(turn);
-        let newborn =
-            engine::birth(&random::site(&mut generator, range), &random::book(&mut generator, range));
+        let (site, book) = random::card(&mut generator, range, 0);
+        let newborn = engine::birth(&site, &book);
         let counts = check_list(&mut generator, newborn.state, 100, range);
         months += counts.months;
+        with_foods += counts.with_foods;
         resumed += counts.resumed;
         refusals.extend(counts.refusals);
     }
     assert!(months > 600, "{months} months");
+    assert!((months / 3..2 * months / 3).contains(&with_foods), "{with_foods} of {months} months with foods");
     assert!(resumed > 200, "{resumed} months after a refused call");
     // 2 and 20 cannot come: a month call has no list, and what it got is a state.
-    assert_eq!(refusals, BTreeSet::from([1, 3, 4, 5, 6, 7, 8, 9, 21, 22]));
+    assert_eq!(refusals, BTreeSet::from([1, 3, 4, 5, 6, 7, 8, 9, 10, 11, 21, 22]));
+}
+
+/// With a foods block the uptake comes from it: that of the site's own diet does not balance the month.
+#[test]
+fn a_months_uptake_is_that_of_its_foods() {
+    let mut generator = Generator::new(34);
+    let (site, book) = (published::site(), curves::book());
+    let foods = cards::foods_file(&random::foods(&mut generator, Range::Near));
+    let newborn = engine::birth(&site, &book).state;
+    let end = fast::month_foods(&site, Some(&foods), &book, &newborn).state;
+    for (foods, balance) in [(Some(foods.as_slice()), Ok(1)), (None, Err((0, 1)))] {
+        let mut ends = Ends::default();
+        ends.note(newborn, 0);
+        ends.note(end, month_uptake(&site, foods, &book, 0).unwrap());
+        assert_eq!(ends.balance(), balance);
+    }
 }
 
 #[test]

@@ -1,110 +1,21 @@
-//! The engine held to the model, call by call (feature `engine`).
+//! The engine held to the model, call by call; `engine_foods` has the calls with a foods block (feature `engine`).
 
+#[path = "support/comparison.rs"]
+mod comparison;
 #[path = "support/month.rs"]
 mod month;
 
-use jurengate_model::block::{self, BLOCK_BYTES, BODY_BYTES};
+use comparison::{list_length, Comparison};
+use jurengate_model::block::{BLOCK_BYTES, BODY_BYTES};
 use jurengate_model::cards::{self, curves, published};
 use jurengate_model::demand3::{month_uptake, Ends};
+use jurengate_model::ffi;
 use jurengate_model::kinetics::step_uptake;
 use jurengate_model::random::{self, damaged, file_faults, row_faults, Fault, Generator, Range, INTAKES};
-use jurengate_model::refusal::number_of;
 use jurengate_model::site::{self, place, AGES, SITE_FIELDS};
 use jurengate_model::state::{State, BURDEN_LIMIT, MONTHS};
 use jurengate_model::uptake::age_of;
-use jurengate_model::{engine, ffi};
 use month::check_month;
-use std::sync::atomic::{AtomicUsize, Ordering};
-
-/// Lent lists are filled with this beforehand.
-const BEFORE: u32 = 0x5EED_5EED;
-
-/// Calls compared by all tests so far; the last line printed has them all.
-static COMPARED: AtomicUsize = AtomicUsize::new(0);
-
-/// Counts the calls that were held to the model, and prints them at the end.
-struct Comparison {
-    what: &'static str,
-    calls: usize,
-    accepted: usize,
-}
-
-impl Comparison {
-    fn new(what: &'static str) -> Comparison {
-        Comparison { what, calls: 0, accepted: 0 }
-    }
-
-    fn count(&mut self, number: u32) -> u32 {
-        self.calls += 1;
-        self.accepted += usize::from(number == 0);
-        number
-    }
-
-    fn read_site(&mut self, site: &[u8]) -> u32 {
-        let model = site::read_site(site);
-        let fields = model.unwrap_or([0; SITE_FIELDS]);
-        assert_eq!(ffi::read_site(site), (number_of(&model), fields), "{}", self.what);
-        self.count(number_of(&model))
-    }
-
-    fn write_block(&mut self, body: &[u8], target_length: usize) -> u32 {
-        let (mut due, mut target) = (vec![0x77; target_length], vec![0x77; target_length]);
-        let model = number_of(&block::write_block(body, &mut due));
-        assert_eq!(ffi::write_block(body, &mut target), model, "{}", self.what);
-        assert_eq!(target, due, "{}", self.what);
-        self.count(model)
-    }
-
-    fn birth(&mut self, site: &[u8], book: &[u8]) -> engine::BirthAnswer {
-        let model = engine::birth(site, book);
-        assert_eq!(ffi::birth(site, book), model, "{}", self.what);
-        self.count(model.number);
-        model
-    }
-
-    fn month(&mut self, site: &[u8], book: &[u8], state: &State) -> engine::MonthAnswer {
-        let model = engine::month(site, book, state);
-        let answer = ffi::month(site, book, state);
-        assert_eq!(answer, model, "{} from {state:?}", self.what);
-        self.count(model.number);
-        answer
-    }
-
-    fn run(&mut self, site: &[u8], book: &[u8], length: usize) -> engine::RunAnswer {
-        let (mut due, mut blood) = (vec![BEFORE; length], vec![BEFORE; length]);
-        let model = engine::run(site, book, &mut due);
-        assert_eq!(ffi::run(site, book, &mut blood), model, "{}", self.what);
-        assert_eq!(blood, due, "{}", self.what);
-        self.count(model.number);
-        model
-    }
-
-    /// Every call that takes files.
-    fn all(&mut self, site: &[u8], book: &[u8], state: &State) {
-        self.read_site(site);
-        self.birth(site, book);
-        self.month(site, book, state);
-        self.run(site, book, MONTHS);
-    }
-}
-
-impl Drop for Comparison {
-    fn drop(&mut self) {
-        if !std::thread::panicking() {
-            let all = COMPARED.fetch_add(self.calls, Ordering::Relaxed) + self.calls;
-            let Comparison { what, calls, accepted } = self;
-            println!("{what}: {calls} calls compared, {accepted} of them accepted; {all} compared so far");
-        }
-    }
-}
-
-/// A length that is mostly the right one.
-fn list_length(generator: &mut Generator) -> usize {
-    match generator.index(6) {
-        0 => [0, 1, 42, 83, 85, 168][generator.index(6)],
-        _ => MONTHS,
-    }
-}
 
 #[test]
 fn the_published_defaults() {
@@ -190,7 +101,7 @@ fn burdens_at_and_past_the_limit_at_each_step() {
         let month = generator.between(0, MONTHS as u64 - 1);
         fields[place::DIET + age_of(month as usize + 1)] = generator.sized(100_000_000) as u32;
         let site = cards::site_file(&fields);
-        let day = month_uptake(&site, &book, month).expect("near intakes are within their limit") / 30;
+        let day = month_uptake(&site, None, &book, month).expect("near intakes are within their limit") / 30;
         let steps = [0, 1, 5, 6, 178, 179, generator.between(0, 179)][turn % 7];
         let absorbed: u64 = (0..=steps).map(|step| step_uptake(day, u128::from(step % 6))).sum();
         for past in [0, 1] {
@@ -327,11 +238,11 @@ fn the_writer_and_read_back() {
     comparison.write_block(&[0; BODY_BYTES], BLOCK_BYTES);
 }
 
-/// One call of a list: its own files, sometimes damaged, mostly near the defaults.
-fn call_files(generator: &mut Generator) -> (Vec<u8>, Vec<u8>) {
+/// One call of a list: its own files, with a foods block or without, sometimes damaged, mostly near the defaults.
+fn call_files(generator: &mut Generator) -> (Vec<u8>, Option<Vec<u8>>, Vec<u8>) {
     let range = if generator.once_in(4) { random::range(generator) } else { Range::Near };
     let faults = usize::from(generator.once_in(5));
-    random::card(generator, range, faults)
+    random::card_of_either_kind(generator, range, faults)
 }
 
 /// Lists of calls with refused ones among them: the engine's own month ends balance
@@ -340,28 +251,30 @@ fn call_files(generator: &mut Generator) -> (Vec<u8>, Vec<u8>) {
 fn demand_3_over_lists_of_calls() {
     let mut comparison = Comparison::new("lists of calls");
     let mut generator = Generator::new(109);
-    let (mut pairs, mut months) = (0, 0);
+    let (mut pairs, mut months, mut with_foods) = (0, 0, 0);
     for _ in 0..40 {
         let mut ends = Ends::default();
-        let (site, book) = call_files(&mut generator);
-        comparison.birth(&site, &book);
-        let newborn = ffi::birth(&site, &book);
+        let (site, foods, book) = call_files(&mut generator);
+        comparison.birth_foods(&site, foods.as_deref(), &book);
+        let newborn = ffi::birth_foods(&site, foods.as_deref(), &book);
         let mut state = newborn.state;
         if newborn.number == 0 {
             ends.note(state, 0);
         }
         for _ in 0..60 {
-            let (site, book) = call_files(&mut generator);
-            let answer = comparison.month(&site, &book, &state);
+            let (site, foods, book) = call_files(&mut generator);
+            let foods = foods.as_deref();
+            let answer = comparison.month_foods(&site, foods, &book, &state);
             if answer.number != 0 {
                 continue;
             }
-            ends.note(answer.state, check_month(&site, &book, &state, &answer.state));
+            with_foods += usize::from(foods.is_some());
+            ends.note(answer.state, check_month(&site, foods, &book, &state, &answer.state));
             (months, state) = (months + 1, answer.state);
         }
         pairs += ends.balance().expect("every two ends balance");
     }
-    assert!(months > 1_500 && pairs > 30_000);
+    assert!(months > 1_500 && pairs > 30_000 && with_foods > months / 3);
     println!(
         "lists of calls: {pairs} pairs of month ends balanced, {} steps within the margin",
         180 * months

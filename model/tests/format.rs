@@ -11,12 +11,13 @@ use jurengate_model::block::{
     check_of, field, word16, word32, BLOCK_BYTES, BODY_BYTES, FIELDS_AT, FIELD_BYTES,
 };
 use jurengate_model::book::{self, column, Row, RowFields, BLOCK_FIELDS, BLOCK_ROWS, ROW_FIELDS};
-use jurengate_model::cards::{block_of, curves, published};
+use jurengate_model::cards::{block_of, curves, foods_file, published};
 use jurengate_model::figures::KEYS;
+use jurengate_model::foods::{self, Foods, FOODS_FIGURES, FOODS_NUMBER};
 use jurengate_model::refusal::{Refusal, ACCEPTED};
-use jurengate_model::site::{self, SITE_FIELDS};
-use limits::{are_row_ends, are_site_ends, number, BLOOD_VOLUME_MOST};
-use places::{Place, ROW, SITE};
+use jurengate_model::site::{self, AGES, SITE_FIELDS};
+use limits::{are_foods_ends, are_row_ends, are_site_ends, foods_bytes, number, BLOOD_VOLUME_MOST};
+use places::{Place, FOODS, ROW, SITE};
 use std::fs;
 
 /// A row of a markdown table, cell by cell.
@@ -65,7 +66,8 @@ fn assert_gapless(places: &[Place], end: usize) {
 fn the_names_are_those_of_the_figures() {
     assert_gapless(&SITE, SITE_FIELDS);
     assert_gapless(&ROW, ROW_FIELDS);
-    assert_eq!(KEYS.map(|key| key.name), SITE.map(|place| place.0));
+    let names = [&SITE[..], &FOODS].concat();
+    assert_eq!(KEYS.map(|key| key.name).to_vec(), names.iter().map(|place| place.0).collect::<Vec<_>>());
 }
 
 #[test]
@@ -80,6 +82,48 @@ fn the_site_fields_are_the_models() {
         for field in place..place + fields {
             assert_eq!((least, most), (site::least(field), site::most(field)), "{name}");
             assert!(are_site_ends(field, least, most), "{name}");
+        }
+    }
+}
+
+/// Grams and single figures are two tables, each with bytes, figure and limits.
+#[test]
+fn the_foods_figures_are_the_models() {
+    let page = format();
+    let columns = ["figure", "name", "unit", "least", "most", "what"];
+    let grams = table(&page, &[&["bytes at age 0"], &columns[..]].concat());
+    let singly = table(&page, &[&["bytes"], &columns[..]].concat());
+    let due = [(grams, &FOODS[..foods::FOODS]), (singly, &FOODS[foods::FOODS..])];
+    let mut places = Vec::new();
+    for (rows, foods_places) in due {
+        assert_eq!(rows.len(), foods_places.len());
+        for (cells, (name, place, ages)) in rows.iter().zip(foods_places) {
+            let bytes = foods_bytes(*place);
+            assert_eq!(cells[2], format!("`{name}`"));
+            assert_eq!(ends(&cells[0]), (bytes.start, bytes.end - 1), "{name}");
+            assert_eq!(ends(&cells[1]), (*place, *place), "{name}");
+            for figure in (0..*ages).map(|age| place + foods::FOODS * age) {
+                assert!(are_foods_ends(figure, count(&cells[4]), count(&cells[5])), "{name}");
+                places.push(figure);
+            }
+        }
+    }
+    places.sort();
+    assert_eq!(places, (0..FOODS_FIGURES).collect::<Vec<_>>());
+}
+
+/// The byte of a food's grams, as the page's formula has it.
+fn grams_byte(age: usize, food: usize) -> usize {
+    4 + 30 * age + 2 * food
+}
+
+#[test]
+fn the_formula_finds_the_grams_of_every_age() {
+    assert!(format().contains("\n    4 + 30 × a + 2 × j\n"));
+    let (block, foods) = (foods_file(&published::foods()), published::foods());
+    for (age, grams) in foods.grams.iter().enumerate() {
+        for (food, due) in grams.iter().enumerate() {
+            assert_eq!(word16(&block, grams_byte(age, food)), *due);
         }
     }
 }
@@ -155,6 +199,12 @@ fn fields_end_and_reserved_bytes_begin_where_the_page_says() {
         let words = words.replace("{reserved}", &(last + 1).to_string());
         assert!(page.contains(&words), "{words}");
     }
+    let words = format!(
+        "Bytes 4 to {} are figures, bytes {} to 507 reserved.",
+        foods::RESERVED_AT - 1,
+        foods::RESERVED_AT
+    );
+    assert!(page.contains(&words), "{words}");
     assert_eq!((BODY_BYTES, BLOCK_ROWS * ROW_FIELDS), (508, 115));
 }
 
@@ -187,11 +237,49 @@ fn the_worked_check_comes_out() {
 fn the_other_checks_on_the_page_come_out() {
     let page = format();
     assert_eq!(check_of(&block_of(0, &[])), 2);
-    assert!(page.contains("A block of zeros with edition 1 has the check 2."));
+    assert_eq!(check_of(&block_of(FOODS_NUMBER, &[])), 3);
+    assert!(page.contains("A block of zeros with edition 1 has the check 2, with number 1 too 3."));
     let site = published::site();
     let bytes = hexadecimal(&site[BODY_BYTES..BLOCK_BYTES]);
     assert!(page.contains(&format!("has the check 44,952,423, in bytes {bytes}.")));
     assert_eq!(check_of(&site), 44_952_423);
+}
+
+/// As many whole numbers as are due in a cell.
+fn numbers<const N: usize>(cell: &str) -> [u32; N] {
+    let numbers: Vec<u32> = cell.split(' ').map(count).collect();
+    numbers.try_into().unwrap_or_else(|_| panic!("`{cell}` has not {N} numbers"))
+}
+
+#[test]
+fn the_worked_diet_comes_out() {
+    let rows = table(&format(), &["example", "figures"]);
+    let [grams, leads, shares, local_leads, diet, check] = &rows[..] else { panic!("six rows are due") };
+    let mut foods = Foods {
+        leads: numbers(&leads[1]),
+        local_shares: numbers(&shares[1]),
+        local_leads: numbers(&local_leads[1]),
+        ..Foods::default()
+    };
+    foods.grams[0] = numbers(&grams[1]).map(|grams| grams as u16);
+    assert_eq!((foods.diet(0), check_of(&foods_file(&foods))), (11_085, 109_834));
+    assert_eq!((count(&diet[1]), count(&check[1])), (11_085, 109_834));
+}
+
+/// How far the agency's foods fall short of its default diet, in whole % rounded to the nearest.
+#[test]
+fn the_published_foods_give_less_than_the_default_diet_by_what_the_page_says() {
+    let short = |age: usize| {
+        let (diet, foods) = (f64::from(published::DIET[age]), published::foods().diet(age) as f64);
+        (100.0 * (diet - foods) / diet).round() as u32
+    };
+    let by_age: Vec<u32> = (0..AGES).map(short).collect();
+    let words = format!(
+        "{} to {} % less than its default diet",
+        by_age.iter().min().unwrap(),
+        by_age.iter().max().unwrap()
+    );
+    assert!(format().contains(&words), "{words}");
 }
 
 #[test]
@@ -206,6 +294,8 @@ fn the_refusals_are_the_models() {
         Refusal::SiteLimits,
         Refusal::BookLimits,
         Refusal::Intake,
+        Refusal::FoodShares,
+        Refusal::FoodLimits,
         Refusal::NoState,
         Refusal::LastMonth,
         Refusal::Burden,

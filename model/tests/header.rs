@@ -19,9 +19,9 @@ use jurengate_model::book::{self, Row};
 use jurengate_model::kinetics::blood_figure;
 use jurengate_model::refusal::{Refusal, ACCEPTED};
 use jurengate_model::state::{self, compartment, COMPARTMENTS, LEDGERS, MONTHS};
-use jurengate_model::{block, site, uptake};
-use limits::{are_row_ends, are_site_ends, number, BLOOD_VOLUME_MOST};
-use places::{Place, ROW, SITE, STATE};
+use jurengate_model::{block, foods, site, uptake};
+use limits::{are_foods_ends, are_row_ends, are_site_ends, number, BLOOD_VOLUME_MOST};
+use places::{Place, FOODS, ROW, SITE, STATE};
 use stack_bounds::STACK_BOUNDS;
 use std::collections::BTreeSet;
 use std::fs;
@@ -51,13 +51,16 @@ fn blood_most() -> u128 {
 
 /// Sizes and limits.
 fn sizes() -> Vec<Named> {
-    let sizes: [(&str, u128); 19] = [
+    let sizes: [(&str, u128); 22] = [
         ("BLOCK_BYTES", block::BLOCK_BYTES as u128),
         ("BODY_BYTES", block::BODY_BYTES as u128),
         ("EDITION", block::EDITION.into()),
         ("SITE_BYTES", block::BLOCK_BYTES as u128),
         ("SITE_FIELDS", site::SITE_FIELDS as u128),
         ("AGES", site::AGES as u128),
+        ("FOODS_BYTES", block::BLOCK_BYTES as u128),
+        ("FOODS", foods::FOODS as u128),
+        ("FOODS_FIGURES", foods::FOODS_FIGURES as u128),
         ("BOOK_BYTES", book::BOOK_BYTES as u128),
         ("BOOK_BLOCKS", book::BOOK_BLOCKS as u128),
         ("BLOCK_ROWS", book::BLOCK_ROWS as u128),
@@ -93,6 +96,8 @@ fn refusals() -> Vec<Named> {
         ("FIELD_OUTSIDE_LIMITS", Refusal::SiteLimits),
         ("ROW_OUTSIDE_LIMITS", Refusal::BookLimits),
         ("INTAKE_TOO_LARGE", Refusal::Intake),
+        ("SHARES_TOO_LARGE", Refusal::FoodShares),
+        ("FOOD_OUTSIDE_LIMITS", Refusal::FoodLimits),
         ("NO_STATE", Refusal::NoState),
         ("LAST_MONTH_DONE", Refusal::LastMonth),
         ("BURDEN_TOO_LARGE", Refusal::Burden),
@@ -116,7 +121,8 @@ fn stack_bounds() -> Vec<Named> {
 
 /// Every number that the header must name, with its value.
 fn all_named() -> Vec<Named> {
-    let places = [named_places("SITE", &SITE), named_places("ROW", &ROW), named_places("STATE", &STATE)];
+    let places = [("SITE", &SITE[..]), ("FOODS", &FOODS), ("ROW", &ROW), ("STATE", &STATE)];
+    let places = places.map(|(kind, places)| named_places(kind, places));
     let lists = [version(), sizes(), stack_bounds(), refusals(), places.concat()];
     lists.concat().into_iter().map(|(name, value)| (format!("{PREFIX}{name}"), value)).collect()
 }
@@ -167,7 +173,7 @@ fn the_header_alone_is_clean_c_and_cpp() {
     compile_as_c_and_cpp("header-alone", "#include \"jurengate.h\"\n#include \"jurengate.h\"\n");
 }
 
-/// The six calls as the library has them: a pointer of another type is an error in both languages.
+/// The ten calls as the library has them: a pointer of another type is an error in both languages.
 #[test]
 fn the_declarations_are_those_of_the_library() {
     let text = r#"
@@ -180,10 +186,17 @@ struct calls {
     uint32_t (*month)(const uint8_t *, size_t, const uint8_t *, size_t, uint64_t *, uint32_t *);
     uint32_t (*run)(const uint8_t *, size_t, const uint8_t *, size_t,
                     uint32_t *, size_t, uint64_t *, uint32_t *);
+    uint32_t (*read_foods)(const uint8_t *, size_t, uint32_t *);
+    uint32_t (*birth_foods)(const uint8_t *, size_t, const uint8_t *, size_t, const uint8_t *, size_t, uint64_t *);
+    uint32_t (*month_foods)(const uint8_t *, size_t, const uint8_t *, size_t, const uint8_t *, size_t,
+                            uint64_t *, uint32_t *);
+    uint32_t (*run_foods)(const uint8_t *, size_t, const uint8_t *, size_t, const uint8_t *, size_t,
+                          uint32_t *, size_t, uint64_t *, uint32_t *);
 };
 struct calls calls = {
     jurengate_read_site, jurengate_read_book, jurengate_write_block,
-    jurengate_birth, jurengate_month, jurengate_run
+    jurengate_birth, jurengate_month, jurengate_run,
+    jurengate_read_foods, jurengate_birth_foods, jurengate_month_foods, jurengate_run_foods
 };
 "#;
     compile_as_c_and_cpp("declarations", text);
@@ -199,6 +212,10 @@ int is_accepted(uint32_t refusal) { return refusal == JURENGATE_ACCEPTED; }
 uint32_t blood_volume(const uint32_t table[JURENGATE_TABLE_NUMBERS], uint32_t month);
 uint32_t blood_volume(const uint32_t table[JURENGATE_TABLE_NUMBERS], uint32_t month) {
     return table[JURENGATE_ROW_NUMBERS * month + JURENGATE_ROW_BLOOD_VOLUME];
+}
+uint32_t meat(const uint32_t figures[JURENGATE_FOODS_FIGURES], uint32_t age);
+uint32_t meat(const uint32_t figures[JURENGATE_FOODS_FIGURES], uint32_t age) {
+    return figures[JURENGATE_FOODS * age + JURENGATE_FOODS_MEAT_GRAMS];
 }
 int is_over(const uint64_t state[JURENGATE_STATE_WORDS]);
 int is_over(const uint64_t state[JURENGATE_STATE_WORDS]) {
@@ -240,6 +257,20 @@ fn the_limits_beside_the_site_places_are_the_models() {
         for field in place..place + count {
             assert!(are_site_ends(field, least, most), "{line}");
             assert_eq!((least, most), (site::least(field), site::most(field)), "{line}");
+        }
+    }
+}
+
+#[test]
+fn the_limits_beside_the_foods_places_are_the_models() {
+    let header = header();
+    for (name, place, count) in FOODS {
+        let line = line_of(&header, &place_name("FOODS", name));
+        for age in 0..count {
+            assert!(
+                are_foods_ends(place + foods::FOODS * age, 0, said(line, "at most ").expect(line)),
+                "{line}"
+            );
         }
     }
 }

@@ -8,10 +8,12 @@ mod repository;
 mod samples;
 
 use folder::Folder;
-use jurengate_model::cards::{book_file, curves, published, site_file};
-use jurengate_model::figures::site_fields;
+use jurengate_model::cards::{book_file, curves, foods_file, published, site_file};
+use jurengate_model::figures::{read, site_fields, text_of, Card};
+use jurengate_model::foods::{food, local};
 use jurengate_model::site::place;
 use samples::{folders, stored};
+use std::fs;
 use std::path::Path;
 use std::process::{Command, Stdio};
 
@@ -41,9 +43,10 @@ fn warnings(figures: &str, folder: &Folder) -> Vec<String> {
     folder.write("yard.txt", figures.as_bytes());
     let told = makecard(&["yard.txt", "card"], folder);
     assert_eq!(told.status, Some(0), "{}", told.errors);
-    assert!(
-        stored(&folder.path().join("card"), "site.lkb") == site_file(&site_fields(figures).expect("figures"))
-    );
+    let (card, made) = (read(figures).expect("figures").card, folder.path().join("card"));
+    assert!(stored(&made, "site.lkb") == site_file(&card.site));
+    assert!(fs::read(made.join("foods.lkb")).ok() == card.foods.map(|foods| foods_file(&foods)));
+    fs::remove_dir_all(made).expect("the card is taken away");
     told.errors.lines().map(str::to_string).collect()
 }
 
@@ -56,7 +59,31 @@ fn a_card_goes_into_the_folder_that_is_named_and_made() {
     let card = folder.path().join("cards/yard");
     assert!(stored(&card, "site.lkb") == published::site());
     assert!(stored(&card, "book.lkb") == curves::book());
-    assert!(!folder.path().join("site.lkb").exists());
+    assert!(!folder.path().join("site.lkb").exists() && !card.join("foods.lkb").exists());
+}
+
+/// A key of a food makes the third file; a text without one leaves a foods block of another card alone, and says so.
+#[test]
+fn foods_make_a_third_file() {
+    let folder = Folder::new("foods");
+    folder.write("yard.txt", b"fish_share = 30\nfish_lead = 0.2\n");
+    let wrote =
+        "wrote card/site.lkb (512 bytes), card/foods.lkb (512 bytes) and card/book.lkb (8704 bytes)\n";
+    assert_eq!(printed(makecard(&["yard.txt", "card"], &folder)), wrote);
+    let mut foods = published::foods();
+    (foods.local_shares[local::FISH], foods.local_leads[local::FISH]) = (30, 200_000);
+    let card = folder.path().join("card");
+    let due =
+        [("site.lkb", published::site()), ("foods.lkb", foods_file(&foods)), ("book.lkb", curves::book())];
+    for (file, bytes) in &due {
+        assert!(stored(&card, file) == *bytes, "{file}");
+    }
+    folder.write("yard.txt", b"");
+    let told = makecard(&["yard.txt", "card"], &folder);
+    assert_eq!(told.output, "wrote card/site.lkb (512 bytes) and card/book.lkb (8704 bytes)\n");
+    let warning = "makecard: warning: card/foods.lkb: not of this card, whose text has no foods; remove it\n";
+    assert_eq!((told.status, told.errors.as_str()), (Some(0), warning));
+    assert!(stored(&card, "foods.lkb") == due[1].1);
 }
 
 #[test]
@@ -64,7 +91,7 @@ fn help_is_printed() {
     let folder = Folder::new("help");
     for option in ["--help", "-h"] {
         let help = printed(makecard(&[option], &folder));
-        for word in ["FIGURES", "--defaults", "--show FOLDER", "--help"] {
+        for word in ["FIGURES", "--defaults", "--show FOLDER", "--help", "foods.lkb"] {
             assert!(help.contains(word), "{word}");
         }
     }
@@ -74,13 +101,17 @@ fn help_is_printed() {
 fn the_printed_defaults_are_the_published_site_with_its_limits() {
     let folder = Folder::new("defaults");
     let defaults = printed(makecard(&["--defaults"], &folder));
-    assert_eq!(site_fields(&defaults), Ok(published::fields()));
+    assert_eq!(read(&defaults).map(|figures| figures.card), Ok(Card::published()));
     let lines = [
         "soil = 200  # 0 to 50000 µg/g; lead in soil",
         "# dust = 150  # 0 to 50000 µg/g; lead in house dust; needs dust_mode = 0",
         "# passive_alternate = 20  # 0 to 100 %; passive share of what alternate gives; needs alternate over 0, absorbed_alternate over 0",
         "dust_mode = 1  # 0 to 1; 0 dust as given, 1 from soil and air",
         "saturation = 100  # 1 to 500 µg/day; half-saturation of the gut at 24 months",
+        "# meat_grams = 35 64 80 88 98 99 100  # 0 to 10000 g/day; meat, fish and game too",
+        "# meat_lead = 0.004447  # 0 to 1 µg/g; lead in meat from the shop",
+        "# fish_share = 0  # 0 to 100 %; share of fish in the meat, with game's at most 100",
+        "# fish_lead = 0  # 0 to 1 µg/g; lead in fish; needs fish_share over 0",
     ];
     for line in lines {
         assert!(defaults.lines().any(|each| each == line), "{line}");
@@ -101,6 +132,10 @@ fn no_warning_without_a_reason() {
         "alternate = 0",
         "alternate = 9\nabsorbed_alternate = 30",
         "weight_soil = 0\nsoil = 9",
+        "fish_share = 30",
+        "fish_share = 30\nfish_lead = 0.1",
+        "home_fruit_share = 100\nhome_fruit_lead = 0.1\nfresh_fruit_grams = 50",
+        "fish_lead = 0",
     ];
     for figures in used {
         assert!(warnings(figures, &folder).is_empty(), "{figures}");
@@ -127,6 +162,14 @@ fn a_figure_that_is_not_used_is_warned_of_with_what_to_add() {
         ("absorbed_diet = 0\ndiet = 5", "line 2: diet is not used. For it to count, change line 1 to `absorbed_diet = N` with N over 0 %"),
         ("absorbed_water = 0\nwater = 5", "line 2: water is not used. For it to count, change line 1 to `absorbed_water = N` with N over 0 %"),
         ("air_absorbed = 0\nbreathing = 5", "line 2: breathing is not used. For it to count, change line 1 to `air_absorbed = N` with N over 0 %"),
+        ("meat_grams = 5\ndiet = 5", "line 2: diet is not used. For it to count, take out the foods (line 1)"),
+        ("nuts_lead = 0\ndiet = 0\n\nmeat_grams = 5", "line 2: diet is not used. For it to count, take out the foods (lines 1 to 4)"),
+        ("fish_lead = 0.1", "line 1: fish_lead is not used. For it to count, add the line `fish_share = N` with N over 0 % (share of fish"),
+        ("game_share = 0\ngame_lead = 0.1", "line 2: game_lead is not used. For it to count, change line 1 to `game_share = N` with N over 0 %"),
+        ("candy_grams = 0\ncandy_lead = 0.1", "line 2: candy_lead is not used. For it to count, change line 1 to `candy_grams = N` with N over 0 g/day (candy)"),
+        ("home_vegetable_share = 100\nfresh_vegetable_lead = 0.1", "line 2: fresh_vegetable_lead is not used. For it to count, change line 1 to `home_vegetable_share = N` with N under 100 %"),
+        ("fish_share = 60\ngame_share = 40\nmeat_lead = 0.1", "line 3: meat_lead is not used. For it to count, change line 1 to `fish_share = N` so that the two shares are under 100 %"),
+        ("absorbed_diet = 0\nsauce_grams = 5", "line 2: sauce_grams is not used. For it to count, change line 1 to `absorbed_diet = N` with N over 0 %"),
     ];
     let folder = Folder::new("warnings");
     for (figures, due) in cases {
@@ -204,13 +247,30 @@ fn a_shown_card_is_made_again() {
         let figures = printed(makecard(&["--show", path(&sample)], &folder));
         folder.write("shown.txt", figures.as_bytes());
         printed(makecard(&["shown.txt", "again"], &folder));
-        for file in ["site.lkb", "book.lkb"] {
-            assert!(
-                stored(&folder.path().join("again"), file) == stored(&sample, file),
-                "{}",
-                sample.display()
-            );
+        let again = folder.path().join("again");
+        for file in ["site.lkb", "book.lkb", "foods.lkb"] {
+            let (made, due) = (fs::read(again.join(file)).ok(), fs::read(sample.join(file)).ok());
+            assert!(made == due, "{} {file}", sample.display());
         }
+        fs::remove_dir_all(again).expect("the card is taken away");
+    }
+}
+
+/// The site's diet, which the foods take the place of, is shown as a figure that is not used.
+#[test]
+fn a_card_with_foods_is_shown_with_them() {
+    let folder = Folder::new("shown-foods");
+    let mut card = Card { foods: Some(published::foods()), ..Card::published() };
+    card.site[place::DIET..place::DIET + 7].fill(5_000_000);
+    folder.write("site.lkb", &site_file(&card.site));
+    folder.write("book.lkb", &curves::book());
+    folder.write("foods.lkb", &foods_file(&published::foods()));
+    let shown = printed(makecard(&["--show", "."], &folder));
+    assert_eq!(shown, text_of(&card));
+    assert_eq!(read(&shown).map(|figures| figures.card), Ok(card));
+    let diet = "diet = 5  # 0 to 1000 µg/day; lead eaten in food; needs the foods left out";
+    for line in [diet, "nuts_grams = 6 5 5 7 6 10 7  # 0 to 10000 g/day; nuts"] {
+        assert!(shown.lines().any(|each| each == line), "{line}");
     }
 }
 
@@ -257,6 +317,45 @@ fn a_card_that_is_refused_is_not_shown() {
         let told = makecard(&["--show", "."], &folder);
         assert_eq!((told.status, told.output.as_str(), told.errors.as_str()), (Some(1), "", due));
     }
+}
+
+#[test]
+fn a_card_whose_foods_are_refused_is_not_shown() {
+    let folder = Folder::new("foods-not-shown");
+    folder.write("site.lkb", &published::site());
+    folder.write("book.lkb", &curves::book());
+    let mut shares = published::foods();
+    (shares.local_shares, shares.leads[food::NUTS]) = ([0, 101, 60, 41], 1_000_001);
+    let mut limits = published::foods();
+    limits.grams[6][food::PASTA] = 10_001;
+    let cases = [
+        (vec![], "refused with 1: its length is wrong, 0 bytes and not 512\n".to_string()),
+        (published::site(), "refused with 5: a block is not the one due there\n".to_string()),
+        (
+            foods_file(&shares),
+            "refused with 10: fish and game together, or home-grown vegetable or fruit, are over 100 %\n\
+            nuts_lead: 1.000001 is over the limit of 1 µg/g\n\
+            home_fruit_share: 101 is over the limit of 100 %\n\
+            fish_share and game_share are 101 % together, over 100 %\n"
+                .to_string(),
+        ),
+        (
+            foods_file(&limits),
+            "refused with 11: an amount of a food, or the lead in it, is over its limit\n\
+            pasta_grams: 10001 at age 6 is over the limit of 10000 g/day\n"
+                .to_string(),
+        ),
+    ];
+    for (foods, due) in cases {
+        folder.write("foods.lkb", &foods);
+        let told = makecard(&["--show", "."], &folder);
+        let due: String = due.lines().map(|line| format!("makecard: ./foods.lkb: {line}\n")).collect();
+        assert_eq!((told.status, told.output.as_str(), told.errors), (Some(1), "", due));
+    }
+    fs::remove_file(folder.path().join("foods.lkb")).expect("the file was there");
+    fs::create_dir(folder.path().join("foods.lkb")).expect("a folder in its place");
+    let told = makecard(&["--show", "."], &folder);
+    assert!(told.status == Some(1) && told.errors.starts_with("makecard: ./foods.lkb: "), "{}", told.errors);
 }
 
 /// A reader that has read enough is no failure.

@@ -83,7 +83,8 @@ fn a_day_takes_up_no_more_than_it_takes_in() {
     let mut generator = Generator::new(56);
     for _ in 0..500 {
         let range = random::range(&mut generator);
-        let files = read_files(&random::site(&mut generator, range), &random::book(&mut generator, range));
+        let (site, book) = random::card(&mut generator, range, 0);
+        let files = read_files(&site, None, &book);
         let (site, book) = files.unwrap();
         for month in [1, 12, 13, 24, 25, 84] {
             let Ok(uptake) = day_uptake(&site, &book, month) else { continue };

@@ -1,4 +1,7 @@
-//! Every refusal number, the order among them, and what a refused call leaves.
+//! Every refusal number of a card without a foods block, the order among them, and what a refused call leaves.
+
+#[path = "support/unabsorbed.rs"]
+mod unabsorbed;
 
 use jurengate_model::block::{write_block, BLOCK_BYTES, BODY_BYTES};
 use jurengate_model::book::{column, read_book, row_fields, RowFields, BLOCK_ROWS, BOOK_ROWS};
@@ -24,14 +27,6 @@ fn run_list(site: &[u8], book: &[u8]) -> (RunAnswer, [u32; MONTHS]) {
 /// The default card with faults in it.
 fn damaged_default(generator: &mut Generator, faults: &[Fault]) -> (Vec<u8>, Vec<u8>) {
     damaged(generator, &published::fields(), &curves::rows(), faults)
-}
-
-/// A site whose intakes bring nothing, so that no burden refusal comes before 9.
-fn unabsorbed_fields() -> [u32; SITE_FIELDS] {
-    let mut fields = published::fields();
-    fields[place::ABSORBED..place::PASSIVE].fill(0);
-    fields[place::AIR_ABSORBED..place::AIR_ABSORBED + AGES].fill(0);
-    fields
 }
 
 #[test]
@@ -64,7 +59,7 @@ fn of_two_faults_the_earlier_in_the_order_is_answered() {
         if faults[0] == faults[1] {
             continue;
         }
-        let (site, book) = damaged(&mut generator, &unabsorbed_fields(), &curves::rows(), &faults);
+        let (site, book) = damaged(&mut generator, &unabsorbed::fields(), &curves::rows(), &faults);
         let first = faults.iter().min_by_key(|fault| fault.order()).unwrap();
         let (answer, _) = run_list(&site, &book);
         assert_eq!(answer.number, first.number(), "{faults:?}");
@@ -173,8 +168,12 @@ fn an_intake_over_the_limit_ends_the_run_at_its_age() {
     let mut generator = Generator::new(4);
     for intake in INTAKES {
         for age in 0..AGES {
-            let (site, book) =
-                damaged(&mut generator, &unabsorbed_fields(), &curves::rows(), &[Fault::Intake(intake, age)]);
+            let (site, book) = damaged(
+                &mut generator,
+                &unabsorbed::fields(),
+                &curves::rows(),
+                &[Fault::Intake(intake, age)],
+            );
             let (answer, blood) = run_list(&site, &book);
             let months = 12 * age;
             assert_eq!((answer.number, answer.months as usize), (9, months), "{intake:?} at {age}");
@@ -187,7 +186,7 @@ fn an_intake_over_the_limit_ends_the_run_at_its_age() {
 
 #[test]
 fn an_intake_at_the_limit_is_accepted() {
-    let mut fields = unabsorbed_fields();
+    let mut fields = unabsorbed::fields();
     fields[place::WEIGHT_SOIL] = 100;
     fields[place::DUST_MODE] = 0;
     for age in 0..AGES {
@@ -230,7 +229,7 @@ fn no_state_is_refused_with_20_at_each_limit() {
 fn twenty_comes_before_21_9_and_22_and_21_before_9() {
     let mut generator = Generator::new(5);
     let (site, book) =
-        damaged(&mut generator, &unabsorbed_fields(), &curves::rows(), &[Fault::Intake(Intake::Soil, 6)]);
+        damaged(&mut generator, &unabsorbed::fields(), &curves::rows(), &[Fault::Intake(Intake::Soil, 6)]);
     let at = |month: u64, burden: u64| State {
         month,
         compartments: [burden, 0, 0, 0, 0, 0, 0],
@@ -249,7 +248,7 @@ fn twenty_comes_before_21_9_and_22_and_21_before_9() {
 
 /// A site that brings a given day's uptake at every age, all of it passive diet.
 fn diet_site(day: u32) -> Vec<u8> {
-    let mut fields = unabsorbed_fields();
+    let mut fields = unabsorbed::fields();
     fields[place::DIET..place::DIET + AGES].fill(day);
     fields[place::ABSORBED] = 100;
     fields[place::PASSIVE] = 100;

@@ -179,6 +179,23 @@ fn every_refusal_has_its_words() {
     }
 }
 
+/// What is printed is the same with and without a foods block, which is told of.
+#[test]
+fn foods_are_said_to_be_of_no_use_here() {
+    let copy = Copy::new("foods");
+    let told = copy.run(&["samples/foods"]);
+    assert_eq!(told.status, Some(0));
+    assert!(told.output == sample("foods/printout.txt"));
+    let due = "sample: foods.lkb in samples/foods is not used: these months have the diet of site.lkb (README.md says how to run the foods)\n";
+    assert_eq!(told.errors, due);
+    copy.folder.write("card/foods.lkb", b"");
+    let words = copy.words(Some(&published::site()), None);
+    assert!(
+        words.starts_with("sample: foods.lkb in card is not used") && words.contains("refused with number 1"),
+        "{words}"
+    );
+}
+
 #[test]
 fn too_much_lead_is_told_with_its_month() {
     let copy = Copy::new("burden");

@@ -1,14 +1,18 @@
 //! The stored sample cards: made of their figures, printed as stored, and what their descriptions say.
 
+#[path = "support/foods_printout.rs"]
+mod foods_printout;
 #[path = "support/repository.rs"]
 mod repository;
 #[path = "support/samples.rs"]
 mod samples;
 
+use foods_printout::foods_printout;
 use jurengate_model::cards::{self, curves};
-use jurengate_model::figures::site_fields;
+use jurengate_model::figures::read;
 use jurengate_model::printout::printout;
 use samples::{folders, stored};
+use std::fs;
 
 fn text(bytes: Vec<u8>) -> String {
     String::from_utf8(bytes).expect("text")
@@ -17,9 +21,11 @@ fn text(bytes: Vec<u8>) -> String {
 #[test]
 fn each_card_is_made_of_its_figures() {
     for sample in folders() {
-        let fields = site_fields(&text(stored(&sample, "figures.txt"))).expect("figures that makecard takes");
-        assert!(stored(&sample, "site.lkb") == cards::site_file(&fields), "{}", sample.display());
+        let figures = read(&text(stored(&sample, "figures.txt"))).expect("figures that makecard takes");
+        let foods = figures.card.foods.map(|foods| cards::foods_file(&foods));
+        assert!(stored(&sample, "site.lkb") == cards::site_file(&figures.card.site), "{}", sample.display());
         assert!(stored(&sample, "book.lkb") == curves::book(), "{}", sample.display());
+        assert!(fs::read(sample.join("foods.lkb")).ok() == foods, "{}", sample.display());
     }
 }
 
@@ -29,6 +35,20 @@ fn each_printout_is_the_model_s() {
         let due = printout(&stored(&sample, "site.lkb"), &stored(&sample, "book.lkb"));
         assert_eq!(text(stored(&sample, "printout.txt")), text(due), "{}", sample.display());
     }
+}
+
+/// With its foods the card has other figures than `leadline` prints, and than the agency's diet gives.
+#[test]
+fn the_printout_with_foods_is_the_model_s() {
+    let sample = repository::at("samples/foods");
+    let file = |name: &str| stored(&sample, name);
+    let due = foods_printout(&file("site.lkb"), &file("foods.lkb"), &file("book.lkb"));
+    assert_eq!(text(file("printout-foods.txt")), due);
+    let highest = |printout: &str| {
+        let blood = printout.lines().filter_map(|line| line.split(' ').nth(1)?.parse().ok());
+        blood.fold(0.0, f64::max)
+    };
+    assert_eq!((highest(&due), highest(&text(file("printout.txt")))), (6.1, 5.6));
 }
 
 /// The card that the program's own check runs on is the default sample.
@@ -46,6 +66,7 @@ fn the_program_s_card_is_the_default_sample() {
 fn the_samples_do_what_they_say() {
     let due = [
         ("default", 84, 0, "84 1.7 -"),
+        ("foods", 84, 0, "84 2.4 -"),
         ("heavy", 84, 50, "84 21.1 -"),
         ("refused-burden", 27, 2, "refused 22 after 26"),
         ("refused-intake", 49, 0, "refused 9 after 48"),

@@ -10,6 +10,7 @@ mod samples;
 use folder::Folder;
 use jurengate_model::cards::published;
 use samples::{folders, stored};
+use std::fs;
 use std::process::{Command, Output};
 
 fn makecard(arguments: &[&str], folder: &Folder) -> Output {
@@ -33,13 +34,15 @@ fn printed(output: Output) -> String {
 
 #[test]
 fn figures_become_the_stored_card_and_its_printout() {
-    let folder = Folder::new("card");
     for sample in folders() {
+        let folder = Folder::new("card");
         let figures = sample.join("figures.txt");
-        let wrote = "wrote ./site.lkb (512 bytes) and ./book.lkb (8704 bytes)\n";
+        let foods = if sample.ends_with("foods") { ", ./foods.lkb (512 bytes)" } else { "" };
+        let wrote = format!("wrote ./site.lkb (512 bytes){foods} and ./book.lkb (8704 bytes)\n");
         assert_eq!(printed(makecard(&[figures.to_str().expect("a path")], &folder)), wrote);
-        for file in ["site.lkb", "book.lkb"] {
-            assert!(stored(folder.path(), file) == stored(&sample, file), "{}: {file}", sample.display());
+        for file in ["site.lkb", "foods.lkb", "book.lkb"] {
+            let (made, due) = (fs::read(folder.path().join(file)).ok(), fs::read(sample.join(file)).ok());
+            assert!(made == due, "{}: {file}", sample.display());
         }
         let due = String::from_utf8(stored(&sample, "printout.txt")).expect("text");
         assert_eq!(printed(modelline(&folder)), due);

@@ -4,9 +4,10 @@
 //! one that nothing disturbed, and their ratio, engine over Rust. A step is too short to be
 //! called alone: it is what a month call takes beyond the reading, over the month's steps.
 
-use jurengate_model::cards::{curves, published};
+use jurengate_model::cards::{self, curves, published};
 use jurengate_model::console::{asks_for_help, ended, misused, print, words};
 use jurengate_model::kinetics::{DAY_STEPS, MONTH_DAYS};
+use jurengate_model::refusal::ACCEPTED;
 use jurengate_model::state::{State, MONTHS};
 use jurengate_model::{fast, ffi};
 use std::hint::black_box;
@@ -82,6 +83,43 @@ fn middle_state(site: &[u8], book: &[u8]) -> State {
     (0..24).fold(newborn, |state, _| fast::month(site, book, &state).state)
 }
 
+/// Times the calls that take a foods block.
+fn bench_foods(site: &[u8], book: &[u8], state: &State) -> io::Result<()> {
+    let foods = cards::foods_file(&published::foods());
+    let (site, block, book) = (black_box(site), black_box(Some(foods.as_slice())), black_box(book));
+    let (mut engine_list, mut rust_list) = ([0; MONTHS], [0; MONTHS]);
+    let answer = ffi::run_foods(site, block, book, &mut engine_list);
+    assert_eq!(answer, fast::run_foods(site, block, book, &mut rust_list));
+    assert_eq!((engine_list, answer.number), (rust_list, ACCEPTED));
+    compare(
+        "whole run with foods",
+        &mut || {
+            black_box(ffi::run_foods(site, block, book, &mut engine_list));
+        },
+        &mut || {
+            black_box(fast::run_foods(site, block, book, &mut rust_list));
+        },
+    )?;
+    compare(
+        "one month call with foods",
+        &mut || {
+            black_box(ffi::month_foods(site, block, book, state));
+        },
+        &mut || {
+            black_box(fast::month_foods(site, block, book, state));
+        },
+    )?;
+    compare(
+        "reading a foods block",
+        &mut || {
+            black_box(ffi::read_foods(black_box(&foods)));
+        },
+        &mut || {
+            black_box(fast::read_foods(black_box(&foods)).ok());
+        },
+    )
+}
+
 /// Times everything, up to a reader's end.
 fn bench() -> io::Result<()> {
     let (site, book) = (published::site(), curves::book());
@@ -108,7 +146,8 @@ fn bench() -> io::Result<()> {
     };
     compare("one month call", &mut || engine_month(&middle), &mut || rust_month(&middle))?;
     compare("reading both files", &mut || engine_month(&last), &mut || rust_month(&last))?;
-    compare_steps(&engine_month, &rust_month, &middle, &last)
+    compare_steps(&engine_month, &rust_month, &middle, &last)?;
+    bench_foods(&site, &book, &middle)
 }
 
 fn main() -> ExitCode {

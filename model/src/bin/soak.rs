@@ -1,13 +1,14 @@
 //! Random cards, whole and damaged, run by the engine and by the model.
 //!
-//! Each card's book is read; then the card is run in one call and lived again month by month. The engine
-//! must give the model's answers, and the same figures and last state both ways.
+//! Each card's book is read, and its foods block if it has one; then the card is run in one call and lived
+//! again month by month. The engine must give the model's answers, and the same figures and last state both ways.
 //! Seed and number of a card make it, so that other seeds are other cards and one can be repeated alone.
 
 use jurengate_model::book::{self, BOOK_ROWS, ROW_FIELDS};
 use jurengate_model::console::{asks_for_help, ended, misused, print, words};
 use jurengate_model::engine::{self, RunAnswer};
 use jurengate_model::ffi;
+use jurengate_model::foods;
 use jurengate_model::random::{self, Generator};
 use jurengate_model::refusal::number_of;
 use jurengate_model::state::MONTHS;
@@ -46,10 +47,12 @@ const NUMBERS: usize = 23;
 #[derive(Default)]
 struct Tally {
     runs: u64,
+    with_foods: u64,
     by_number: [u64; NUMBERS],
     run_months: u64,
     books: u64,
     accepted_books: u64,
+    accepted_foods: u64,
     births: u64,
     month_calls: u64,
 }
@@ -62,6 +65,10 @@ impl Tally {
         }
         lines.push(format!("{} months compared in runs", self.run_months));
         lines.push(format!("{} books compared, {} of them accepted", self.books, self.accepted_books));
+        lines.push(format!(
+            "{} foods blocks compared, {} of them accepted",
+            self.with_foods, self.accepted_foods
+        ));
         lines.push(format!("{} births and {} month calls compared", self.births, self.month_calls));
         lines.push(format!("no mismatch, {:.0} s\n", started.elapsed().as_secs_f64()));
         lines.join("\n")
@@ -77,11 +84,14 @@ fn held<T: PartialEq + Debug>(what: &str, answer: T, due: T) -> Result<T, String
     }
 }
 
-/// A random card, one in four with up to three faults.
-fn card(generator: &mut Generator) -> (Vec<u8>, Vec<u8>) {
+/// A card's files: site, foods if it has them, book.
+type Card = (Vec<u8>, Option<Vec<u8>>, Vec<u8>);
+
+/// A random card, one in two with a foods block, one in four with up to three faults.
+fn card(generator: &mut Generator) -> Card {
     let range = random::range(generator);
     let faults = if generator.once_in(4) { 1 + generator.index(3) } else { 0 };
-    random::card(generator, range, faults)
+    random::card_of_either_kind(generator, range, faults)
 }
 
 /// A list's length, mostly the one due.
@@ -103,10 +113,22 @@ fn read_book(book: &[u8], tally: &mut Tally) -> Result<(), String> {
     Ok(())
 }
 
+/// The engine's foods reader held to the model's.
+fn read_foods(block: &[u8], tally: &mut Tally) -> Result<(), String> {
+    let due = foods::read_foods(block);
+    let due = (number_of(&due), due.unwrap_or_default().figures());
+    let (number, _) = held("foods reader", ffi::read_foods(block), due)?;
+    tally.with_foods += 1;
+    tally.accepted_foods += u64::from(number == 0);
+    Ok(())
+}
+
 /// The engine's run held to the model's, the whole lent list too.
-fn run(site: &[u8], book: &[u8], list: &mut [u32]) -> Result<RunAnswer, String> {
+fn run((site, foods, book): &Card, list: &mut [u32]) -> Result<RunAnswer, String> {
+    let foods = foods.as_deref();
     let mut due = list.to_vec();
-    let answer = held("run", ffi::run(site, book, list), engine::run(site, book, &mut due))?;
+    let due_answer = engine::run_foods(site, foods, book, &mut due);
+    let answer = held("run", ffi::run_foods(site, foods, book, list), due_answer)?;
     held("the run's list", list.to_vec(), due)?;
     Ok(answer)
 }
@@ -114,20 +136,21 @@ fn run(site: &[u8], book: &[u8], list: &mut [u32]) -> Result<RunAnswer, String> 
 /// Birth and months up to the first refusal, each call held to the model's, with the
 /// figures put into a list as the run does.
 fn month_by_month(
-    site: &[u8],
-    book: &[u8],
+    (site, foods, book): &Card,
     list: &mut [u32],
     tally: &mut Tally,
 ) -> Result<RunAnswer, String> {
-    let newborn = held("birth", ffi::birth(site, book), engine::birth(site, book))?;
+    let foods = foods.as_deref();
+    let due = engine::birth_foods(site, foods, book);
+    let newborn = held("birth", ffi::birth_foods(site, foods, book), due)?;
     tally.births += 1;
     let mut done = RunAnswer { number: newborn.number, state: newborn.state, months: 0 };
     for figure in list {
         if done.number != 0 {
             break;
         }
-        let (lived, due) = (ffi::month(site, book, &done.state), engine::month(site, book, &done.state));
-        let lived = held("month call", lived, due)?;
+        let due = engine::month_foods(site, foods, book, &done.state);
+        let lived = held("month call", ffi::month_foods(site, foods, book, &done.state), due)?;
         tally.month_calls += 1;
         (done.number, done.state) = (lived.number, lived.state);
         if lived.number == 0 {
@@ -141,15 +164,18 @@ fn month_by_month(
 /// One card both ways.
 fn soak(seed: u32, number: u32, tally: &mut Tally) -> Result<(), String> {
     let mut generator = Generator::of_card(seed, number);
-    let (site, book) = card(&mut generator);
-    read_book(&book, tally)?;
+    let card = card(&mut generator);
+    read_book(&card.2, tally)?;
+    if let Some(foods) = &card.1 {
+        read_foods(foods, tally)?;
+    }
     let mut list = vec![BEFORE; list_length(&mut generator)];
-    let whole = run(&site, &book, &mut list)?;
+    let whole = run(&card, &mut list)?;
     tally.runs += 1;
     tally.by_number[whole.number as usize] += 1;
     tally.run_months += u64::from(whole.months);
     let mut figures = vec![BEFORE; MONTHS];
-    let lived = month_by_month(&site, &book, &mut figures, tally)?;
+    let lived = month_by_month(&card, &mut figures, tally)?;
     // A list of another length has refused the run before its first month.
     if list.len() == MONTHS {
         held("month by month and run", (lived, figures), (whole, list))?;

@@ -1,6 +1,8 @@
 //! The published default site: document 003, Table 2-2 (the user's guide), with
-//! document 000, Appendix B (crosswalk, column V.2.0) and its default tables.
+//! document 000, Appendix B (crosswalk, column V.2.0) and its default tables; and
+//! the foods that its diet is made of.
 
+use crate::foods::{Foods, FOODS, LOCAL_FOODS};
 use crate::site::{place, AGES, SITE_FIELDS};
 
 /// Outdoor air, pg/m³: 0.10 µg/m³ at every age (003 Table 2-2, 000 air_concentration).
@@ -53,6 +55,41 @@ pub const PASSIVE: [u32; 5] = [20; 5];
 pub const SATURATION: u32 = 100_000_000;
 /// Mother's blood lead, thousandths of µg/dL: 0.6 µg/dL (003 Table 2-2, 000 PBBLDMAT V.2.0).
 pub const MOTHER: u32 = 600;
+
+/// Grams a day of the fifteen foods at each age, in the order E-4d to E-4r: 000 Table 2 (and crosswalk,
+/// column V.2.0), rounded to whole grams, which a foods block has.
+pub const FOOD_GRAMS: [[u16; AGES]; FOODS] = [
+    [63, 162, 169, 188, 202, 234, 243],
+    [32, 92, 113, 135, 142, 162, 174],
+    [10, 9, 9, 11, 12, 14, 12],
+    [4, 5, 6, 7, 6, 8, 7],
+    [6, 11, 17, 21, 23, 25, 26],
+    [171, 501, 424, 413, 397, 429, 394],
+    [36, 60, 63, 75, 74, 76, 87],
+    [34, 51, 59, 63, 73, 74, 70],
+    [124, 68, 56, 0, 0, 0, 0],
+    [20, 22, 30, 0, 0, 0, 0],
+    [53, 106, 107, 121, 116, 109, 98],
+    [35, 64, 80, 88, 98, 99, 100],
+    [6, 5, 5, 7, 6, 10, 7],
+    [40, 56, 69, 80, 95, 93, 92],
+    [1, 2, 2, 2, 3, 2, 2],
+];
+/// Lead of the fifteen foods, pg/g (000 crosswalk, column V.2.0, beverageConc to sauceConc). 000's dictionary
+/// says µg/kg; in µg/g they make its default diet of Table 2's grams.
+pub const FOOD_LEADS: [u32; FOODS] = [
+    2_469, 7_097, 12_952, 4_923, 6_842, 3_676, 4_325, 9_326, 2_523, 5_009, 2_256, 4_447, 7_256, 5_746, 12_815,
+];
+
+/// The published foods: nothing home-grown, no fish, no game (000, below its default diet).
+pub fn foods() -> Foods {
+    Foods {
+        grams: std::array::from_fn(|age| FOOD_GRAMS.map(|grams| grams[age])),
+        leads: FOOD_LEADS,
+        local_shares: [0; LOCAL_FOODS],
+        local_leads: [0; LOCAL_FOODS],
+    }
+}
 
 /// The 94 fields of the published default site.
 pub fn fields() -> [u32; SITE_FIELDS] {

@@ -1,9 +1,10 @@
-//! From the text to the site fields, with every mistake in it.
+//! From the text to the figures of a card, with every mistake in it.
 
+use super::keys::{index_of, key_of, Key, Place, KEYS};
 use super::spelling::nearest_key;
-use super::{index_of, Fields, Key, KEYS};
-use crate::cards::published;
-use crate::site::{place, AGES, SHARES_MOST};
+use super::{Card, Fields};
+use crate::foods::{local, Foods};
+use crate::site::{place, AGES};
 use std::fmt;
 
 /// What is wrong with a text, and on which line, from 1.
@@ -24,8 +25,9 @@ impl fmt::Display for Mistake {
 /// What a text without mistakes says.
 #[derive(Clone, Debug, PartialEq, Eq)]
 pub struct Figures {
-    /// The site fields; what the text leaves out has its published default.
-    pub fields: Fields,
+    /// The card's figures; what the text leaves out has its published default, and without a key of a food there is
+    /// no foods block.
+    pub card: Card,
     /// The line that gives each key, in the order of `KEYS`, if one does.
     pub lines: [Option<usize>; KEYS.len()],
 }
@@ -102,25 +104,44 @@ impl Key {
     }
 }
 
-/// What is wrong with the two water shares together.
-fn shares_mistake(fields: &Fields) -> Option<String> {
-    let shares = u64::from(fields[place::FIRST_DRAW_SHARE]) + u64::from(fields[place::FOUNTAIN_SHARE]);
-    let told = format!("first_draw_share and fountain_share are {shares} % together, over {SHARES_MOST} %");
-    (shares > SHARES_MOST.into()).then_some(told)
+/// Shares of one amount, %, which are together at most the whole.
+type Shares = [Place; 2];
+
+const WATER_SHARES: Shares = [Place::Site(place::FIRST_DRAW_SHARE), Place::Site(place::FOUNTAIN_SHARE)];
+const MEAT_SHARES: Shares = [Place::Share(local::FISH), Place::Share(local::GAME)];
+
+/// What is wrong with two shares together.
+fn shares_mistake(card: &Card, shares: Shares) -> Option<String> {
+    let [one, other] = shares.map(key_of);
+    let sum: u64 = [one, other].iter().map(|key| u64::from(key.of(card)[0])).sum();
+    let told = format!("{} and {} are {sum} % together, over {} %", one.name, other.name, one.most());
+    (sum > one.most().into()).then_some(told)
+}
+
+/// Every figure of some keys that is outside its limits, and their shares, in words.
+fn outside<'a>(card: &Card, keys: impl Iterator<Item = &'a Key>, shares: Shares) -> Vec<String> {
+    let mut told = Vec::new();
+    for key in keys {
+        for (age, value) in key.of(card).into_iter().enumerate() {
+            let shown = key.shown(value);
+            let text = if key.count == AGES { format!("{shown} at age {age}") } else { shown };
+            told.extend(key.limit_mistake(value.into(), &text));
+        }
+    }
+    told.extend(shares_mistake(card, shares));
+    told
 }
 
 /// Every figure of a site file that is outside its limits, in words.
-pub fn outside(fields: &Fields) -> Vec<String> {
-    let mut told = Vec::new();
-    for key in &KEYS {
-        for (age, value) in key.of(fields).iter().enumerate() {
-            let shown = key.shown(*value);
-            let text = if key.count == AGES { format!("{shown} at age {age}") } else { shown };
-            told.extend(key.limit_mistake((*value).into(), &text));
-        }
-    }
-    told.extend(shares_mistake(fields));
-    told
+pub fn outside_site(fields: &Fields) -> Vec<String> {
+    let card = Card { site: *fields, foods: None };
+    outside(&card, KEYS.iter().filter(|key| !key.is_of_foods()), WATER_SHARES)
+}
+
+/// Every figure of a foods block that is outside its limits, in words.
+pub fn outside_foods(foods: &Foods) -> Vec<String> {
+    let card = Card { foods: Some(*foods), ..Card::published() };
+    outside(&card, KEYS.iter().filter(|key| key.is_of_foods()), MEAT_SHARES)
 }
 
 /// What to say of a word that is no key.
@@ -151,7 +172,7 @@ impl Reader {
         self.mistakes.extend(mistakes.into_iter().map(|what| Mistake { line: number, what }));
     }
 
-    /// Puts figures into the fields of their key; answers what is wrong with them.
+    /// Puts the figures of a key on the card; answers what is wrong with them.
     fn assign(&mut self, number: usize, name: &str, right: &str) -> Vec<String> {
         let Some(index) = KEYS.iter().position(|key| key.name == name) else {
             return vec![no_key(name)];
@@ -162,22 +183,21 @@ impl Reader {
             None => self.figures.lines[index] = Some(number),
         }
         match KEYS[index].read_all(right) {
-            Ok(values) => self.figures.fields[KEYS[index].places()].copy_from_slice(&values),
+            Ok(values) => KEYS[index].put(&mut self.figures.card, &values),
             Err(wrong) => mistakes.extend(wrong),
         }
         mistakes
     }
 
-    /// The sum of the two water shares, if both were read well.
-    fn hold_shares(&mut self) {
-        let lines =
-            [place::FIRST_DRAW_SHARE, place::FOUNTAIN_SHARE].map(|at| self.figures.lines[index_of(at)]);
+    /// The sum of two shares, if both were read well.
+    fn hold_shares(&mut self, shares: Shares) {
+        let lines = shares.map(|share| self.figures.lines[index_of(share)]);
         if self.mistakes.iter().any(|mistake| lines.contains(&Some(mistake.line))) {
             return;
         }
         // Over the limit only if one of them is written, as the published shares fit.
         if let (Some(what), Some(line)) =
-            (shares_mistake(&self.figures.fields), lines.into_iter().flatten().max())
+            (shares_mistake(&self.figures.card, shares), lines.into_iter().flatten().max())
         {
             self.mistakes.push(Mistake { line, what });
         }
@@ -186,12 +206,13 @@ impl Reader {
 
 /// What a text says, or every mistake in it, in the order of the lines.
 pub fn read(text: &str) -> Result<Figures, Vec<Mistake>> {
-    let figures = Figures { fields: published::fields(), lines: [None; KEYS.len()] };
+    let figures = Figures { card: Card::published(), lines: [None; KEYS.len()] };
     let mut reader = Reader { figures, mistakes: Vec::new() };
     for (index, line) in text.lines().enumerate() {
         reader.take(index + 1, line);
     }
-    reader.hold_shares();
+    reader.hold_shares(WATER_SHARES);
+    reader.hold_shares(MEAT_SHARES);
     reader.mistakes.sort_by_key(|mistake| mistake.line);
     if reader.mistakes.is_empty() {
         Ok(reader.figures)
@@ -202,7 +223,7 @@ pub fn read(text: &str) -> Result<Figures, Vec<Mistake>> {
 
 /// The site fields that a text stands for.
 pub fn site_fields(text: &str) -> Result<Fields, Vec<Mistake>> {
-    read(text).map(|figures| figures.fields)
+    read(text).map(|figures| figures.card.site)
 }
 
 /// The text of a file as an editor saves it: UTF-8, or UTF-16 with its byte order mark. The mark is left out.

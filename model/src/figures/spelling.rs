@@ -2,9 +2,13 @@
 
 use super::KEYS;
 
-/// The nearest of the keys that are no more edits away than half the letters, if there is one.
+/// The first key that begins with the word, or the nearest of those that are no more edits away than half the
+/// letters, if there is one.
 pub fn nearest_key(word: &str) -> Option<&'static str> {
     let word = word.to_lowercase().replace(['-', ' '], "_");
+    if let Some(key) = KEYS.iter().find(|key| key.name.starts_with(&format!("{word}_"))) {
+        return Some(key.name);
+    }
     let letters = |name: &str| word.chars().count().max(name.len());
     let measured = KEYS.iter().map(|key| (edits(&word, key.name), key.name));
     let (_, name) = measured.filter(|(edits, name)| *edits <= letters(name) / 2).min()?;
@@ -49,6 +53,11 @@ mod tests {
             ("dust-mode", Some("dust_mode")),
             ("hours", Some("hours_out")),
             ("absorbed_alternat", Some("absorbed_alternate")),
+            ("dairy", Some("dairy_grams")),
+            ("Canned Vegetable", Some("canned_vegetable_grams")),
+            ("fishlead", Some("fish_lead")),
+            ("vegetable_share", Some("home_vegetable_share")),
+            ("", None),
             ("zzz", None),
             ("µ", None),
         ];

@@ -1,13 +1,15 @@
 //! Damaged files: each fault just out of bounds, sealed so that it alone is met.
 
+use super::foods::{foods_fault, FoodsFault};
 use super::{Generator, D, OUTFLOW_MOST};
-use crate::block::{BLOCK_BYTES, BODY_BYTES, EDITION_AT, FIELDS_AT, FIELD_BYTES, NUMBER_AT};
-use crate::book::{column, RowFields, BLOCK_FIELDS, BLOCK_ROWS, BOOK_BLOCKS, BOOK_ROWS};
+use crate::block::{BLOCK_BYTES, BODY_BYTES, EDITION_AT, NUMBER_AT};
+use crate::book::{self, column, RowFields, BLOCK_ROWS, BOOK_BLOCKS, BOOK_ROWS};
 use crate::cards;
+use crate::foods::Foods;
 use crate::site::{self, place, AGES, SITE_FIELDS};
 
 /// 10^9 + 1, the least intake that refusal 9 stops, as products that fit the fields.
-const PAST_INTAKE: [(u32, u32); 2] = [(77, 12_987_013), (1_001, 999_001)];
+pub(super) const PAST_INTAKE: [(u32, u32); 2] = [(77, 12_987_013), (1_001, 999_001)];
 
 /// What is wrong with a row.
 #[derive(Clone, Copy, Debug, PartialEq, Eq)]
@@ -147,7 +149,7 @@ pub fn break_intake(fields: &mut [u32; SITE_FIELDS], intake: Intake, age: usize)
     }
 }
 
-/// One thing wrong with the two files.
+/// One thing wrong with the files of a card.
 #[derive(Clone, Copy, Debug, PartialEq, Eq)]
 pub enum Fault {
     /// A site file of this length.
@@ -180,6 +182,8 @@ pub enum Fault {
     Row(usize, RowFault),
     /// An intake of an age over 10^9.
     Intake(Intake, usize),
+    /// Something of the foods block.
+    Foods(FoodsFault),
 }
 
 impl Fault {
@@ -194,25 +198,45 @@ impl Fault {
             Fault::SiteField(_) | Fault::Shares | Fault::SaturationLow => 7,
             Fault::Row(..) => 8,
             Fault::Intake(..) => 9,
+            Fault::Foods(fault) => fault.number(),
         }
     }
 
-    /// Where the fault stands in the order of refusals: file by file, block by block.
-    pub fn order(self) -> (usize, u32) {
-        match self {
-            Fault::SiteLength(_) | Fault::BookLength(_) => (0, 1),
+    /// Where the fault stands in the order of refusals: by its turn, then by its number.
+    pub fn order(self) -> (Turn, u32) {
+        let turn = match self {
+            Fault::SiteLength(_) | Fault::BookLength(_) => Turn::Lengths,
             Fault::BlockCheck(n)
             | Fault::BlockEdition(n)
             | Fault::BlockNumber(n)
-            | Fault::BlockReserved(n) => (2 + n, self.number()),
-            Fault::Row(month, _) => (2 + month / BLOCK_ROWS, 8),
-            Fault::Intake(_, age) => (2 + BOOK_BLOCKS + age, 9),
-            _ => (1, self.number()),
-        }
+            | Fault::BlockReserved(n) => Turn::BookBlock(n),
+            Fault::Row(month, _) => Turn::BookBlock(month / BLOCK_ROWS),
+            Fault::Intake(_, age) | Fault::Foods(FoodsFault::Diet(_, age)) => Turn::Age(age),
+            Fault::Foods(_) => Turn::Foods,
+            _ => Turn::Site,
+        };
+        (turn, self.number())
     }
 }
 
-/// Every fault of lengths, of blocks' checks, editions, numbers and reserved bytes, and of site fields.
+/// What a call looks at, in its order.
+#[derive(Clone, Copy, Debug, PartialEq, Eq, PartialOrd, Ord)]
+pub enum Turn {
+    /// The lengths of site and book, and of the run's list.
+    Lengths,
+    /// The site file.
+    Site,
+    /// The foods block, its length too.
+    Foods,
+    /// A block of the book.
+    BookBlock(usize),
+    /// The state handed in, or the newborn.
+    State,
+    /// The months of an age.
+    Age(usize),
+}
+
+/// Every fault of the two files' lengths, of blocks' checks, editions, numbers and reserved bytes, and of site fields.
 pub fn file_faults() -> Vec<Fault> {
     let mut faults = vec![
         Fault::SiteCheck,
@@ -236,7 +260,16 @@ pub fn file_faults() -> Vec<Fault> {
     faults
 }
 
-/// A fault of any kind.
+/// A fault of any kind, in one of three of the foods block.
+pub fn fault_with_foods(generator: &mut Generator) -> Fault {
+    if generator.once_in(3) {
+        Fault::Foods(foods_fault(generator))
+    } else {
+        fault(generator)
+    }
+}
+
+/// A fault of any kind in the two files.
 pub fn fault(generator: &mut Generator) -> Fault {
     let block = generator.index(BOOK_BLOCKS);
     match generator.index(15) {
@@ -262,7 +295,7 @@ pub fn fault(generator: &mut Generator) -> Fault {
 }
 
 /// A length that is not the one due.
-fn length_off(generator: &mut Generator, due: usize) -> usize {
+pub(super) fn length_off(generator: &mut Generator, due: usize) -> usize {
     match generator.index(6) {
         0 => 0,
         1 => due - 1,
@@ -273,60 +306,85 @@ fn length_off(generator: &mut Generator, due: usize) -> usize {
     }
 }
 
-/// Two files with faults in them. Faults in fields go in first, then those in the
-/// blocks' frames, each sealed; then broken checks, then lengths, so that a later
-/// fault of the order never hides behind an earlier one that was not asked for.
+/// The two files of a card without a foods block, with faults in them.
 pub fn damaged(
     generator: &mut Generator,
     fields: &[u32; SITE_FIELDS],
     rows: &[RowFields],
     faults: &[Fault],
 ) -> (Vec<u8>, Vec<u8>) {
-    let mut fields = *fields;
-    let mut rows = rows.to_vec();
-    let (mut intakes, mut others): (Vec<Fault>, Vec<Fault>) =
-        faults.iter().partition(|fault| matches!(fault, Fault::Intake(..)));
-    others.sort_by_key(|fault| matches!(fault, Fault::SiteField(_)));
-    intakes.append(&mut others);
-    for fault in &intakes {
-        break_fields(&mut fields, &mut rows, *fault);
-    }
-    let (mut site, mut book) = (cards::site_file(&fields), cards::book_file(&rows));
-    for fault in faults {
-        break_frame(generator, &mut site, &mut book, *fault);
-    }
-    for fault in faults {
-        break_check(generator, &mut site, &mut book, *fault);
-    }
-    for fault in faults {
-        break_length(&mut site, &mut book, *fault);
-    }
+    let (site, _, book) = damaged_with_foods(generator, fields, &Foods::default(), rows, faults);
     (site, book)
 }
 
+/// A site file, a foods block and a book with faults in them. Faults in fields go in first,
+/// then those in the blocks' frames, each sealed; then broken checks, then lengths, so that a
+/// later fault of the order never hides behind an earlier one that was not asked for.
+pub fn damaged_with_foods(
+    generator: &mut Generator,
+    fields: &[u32; SITE_FIELDS],
+    foods: &Foods,
+    rows: &[RowFields],
+    faults: &[Fault],
+) -> (Vec<u8>, Vec<u8>, Vec<u8>) {
+    let (mut fields, mut foods) = (*fields, *foods);
+    let mut rows = rows.to_vec();
+    for fault in in_field_order(faults) {
+        break_fields(&mut fields, &mut foods, &mut rows, fault);
+    }
+    let mut files = [cards::site_file(&fields), cards::foods_file(&foods), cards::book_file(&rows)];
+    for fault in faults {
+        break_frame(generator, &mut files, *fault);
+    }
+    for fault in faults {
+        break_check(generator, &mut files, *fault);
+    }
+    for fault in faults {
+        break_length(&mut files, *fault);
+    }
+    let [site, foods, book] = files;
+    (site, foods, book)
+}
+
+/// Faults in the order in which they go into fields: intakes change several, a field's own fault must stay;
+/// of two diets that take from the same foods, the earlier age's must.
+fn in_field_order(faults: &[Fault]) -> Vec<Fault> {
+    let mut faults = faults.to_vec();
+    faults.sort_by_key(|fault| match fault {
+        Fault::Intake(..) => (0, 0),
+        Fault::Foods(FoodsFault::Diet(_, age)) => (1, AGES - age),
+        Fault::SiteField(_) => (3, 0),
+        _ => (2, 0),
+    });
+    faults
+}
+
 /// Faults in what the fields say.
-fn break_fields(fields: &mut [u32; SITE_FIELDS], rows: &mut [RowFields], fault: Fault) {
+fn break_fields(fields: &mut [u32; SITE_FIELDS], foods: &mut Foods, rows: &mut [RowFields], fault: Fault) {
     match fault {
         Fault::SiteField(index) => fields[index] = site::most(index) + 1,
         Fault::Shares => (fields[place::FIRST_DRAW_SHARE], fields[place::FOUNTAIN_SHARE]) = (50, 51),
         Fault::SaturationLow => fields[place::SATURATION] = site::SATURATION_LEAST - 1,
         Fault::Row(month, fault) => break_row(&mut rows[month], fault),
         Fault::Intake(intake, age) => break_intake(fields, intake, age),
+        Fault::Foods(fault) => fault.break_figures(foods),
         _ => {}
     }
 }
 
+/// The files of a card: site, foods, book.
+type Files = [Vec<u8>; 3];
+
 /// Faults in edition, number and reserved bytes, the block sealed after each.
-fn break_frame(generator: &mut Generator, site: &mut [u8], book: &mut [u8], fault: Fault) {
-    let site_reserved = FIELDS_AT + FIELD_BYTES * SITE_FIELDS;
-    let book_reserved = FIELDS_AT + FIELD_BYTES * BLOCK_FIELDS;
+fn break_frame(generator: &mut Generator, [site, foods, book]: &mut Files, fault: Fault) {
     match fault {
         Fault::SiteEdition => break_word(generator, site, EDITION_AT),
         Fault::SiteNumber => break_word(generator, site, NUMBER_AT),
-        Fault::SiteReserved => break_reserved(generator, site, site_reserved),
+        Fault::SiteReserved => break_reserved(generator, site, site::RESERVED_AT),
         Fault::BlockEdition(n) => break_word(generator, block_mut(book, n), EDITION_AT),
         Fault::BlockNumber(n) => break_word(generator, block_mut(book, n), NUMBER_AT),
-        Fault::BlockReserved(n) => break_reserved(generator, block_mut(book, n), book_reserved),
+        Fault::BlockReserved(n) => break_reserved(generator, block_mut(book, n), book::RESERVED_AT),
+        Fault::Foods(fault) => fault.break_frame(generator, foods),
         _ => {}
     }
 }
@@ -336,14 +394,14 @@ fn block_mut(book: &mut [u8], number: usize) -> &mut [u8] {
 }
 
 /// Changes a 16-bit word and seals the block.
-fn break_word(generator: &mut Generator, block: &mut [u8], at: usize) {
+pub(super) fn break_word(generator: &mut Generator, block: &mut [u8], at: usize) {
     let bit = generator.index(16);
     block[at + bit / 8] ^= 1 << (bit % 8);
     cards::seal(block);
 }
 
 /// Puts something into a reserved byte, often the first or the last, and seals the block.
-fn break_reserved(generator: &mut Generator, block: &mut [u8], from: usize) {
+pub(super) fn break_reserved(generator: &mut Generator, block: &mut [u8], from: usize) {
     let last = BODY_BYTES - 1;
     let at = match generator.index(3) {
         0 => from,
@@ -355,20 +413,25 @@ fn break_reserved(generator: &mut Generator, block: &mut [u8], from: usize) {
 }
 
 /// Turns one bit of a block without sealing it: any change of one bit changes the check.
-fn break_check(generator: &mut Generator, site: &mut [u8], book: &mut [u8], fault: Fault) {
-    let block: &mut [u8] = match fault {
-        Fault::SiteCheck => site,
-        Fault::BlockCheck(n) => block_mut(book, n),
-        _ => return,
-    };
+pub(super) fn break_bit(generator: &mut Generator, block: &mut [u8]) {
     let bit = generator.index(8 * BLOCK_BYTES);
     block[bit / 8] ^= 1 << (bit % 8);
 }
 
-fn break_length(site: &mut Vec<u8>, book: &mut Vec<u8>, fault: Fault) {
+fn break_check(generator: &mut Generator, [site, foods, book]: &mut Files, fault: Fault) {
+    match fault {
+        Fault::SiteCheck => break_bit(generator, site),
+        Fault::BlockCheck(n) => break_bit(generator, block_mut(book, n)),
+        Fault::Foods(fault) => fault.break_check(generator, foods),
+        _ => {}
+    }
+}
+
+fn break_length([site, foods, book]: &mut Files, fault: Fault) {
     match fault {
         Fault::SiteLength(length) => site.resize(length, 0),
         Fault::BookLength(length) => book.resize(length, 0),
+        Fault::Foods(fault) => fault.break_length(foods),
         _ => {}
     }
 }

@@ -1,7 +1,11 @@
 //! Limits that are written down, held to the model's rules: each end passes, and one step past it is refused.
 
+use jurengate_model::block::FIELD_BYTES;
 use jurengate_model::book::{column, Row, RowFields, ROW_FIELDS};
-use jurengate_model::site::{place, within_limits, SATURATION_LEAST, SITE_FIELDS};
+use jurengate_model::cards::{foods_file, seal};
+use jurengate_model::foods::{read_foods, Foods, FOODS, GRAMS_AT, GRAMS_BYTES, LEADS_AT};
+use jurengate_model::site::{place, within_limits, AGES, SATURATION_LEAST, SITE_FIELDS};
+use std::ops::Range;
 
 /// The largest blood volume of a row.
 pub const BLOOD_VOLUME_MOST: u32 = 60_000;
@@ -25,6 +29,25 @@ pub fn are_site_ends(place: usize, least: u32, most: u32) -> bool {
         fields[place::SATURATION] = SATURATION_LEAST;
         fields[place] = value;
         within_limits(&fields)
+    })
+}
+
+/// The bytes of a foods block's figure.
+pub fn foods_bytes(place: usize) -> Range<usize> {
+    match place.checked_sub(AGES * FOODS) {
+        None => GRAMS_AT + GRAMS_BYTES * place..GRAMS_AT + GRAMS_BYTES * (place + 1),
+        Some(behind) => LEADS_AT + FIELD_BYTES * behind..LEADS_AT + FIELD_BYTES * (behind + 1),
+    }
+}
+
+/// Whether a foods block's figure has these ends if all others are 0.
+pub fn are_foods_ends(place: usize, least: u32, most: u32) -> bool {
+    are_ends(least, most, |value| {
+        let mut block = foods_file(&Foods::default());
+        let bytes = foods_bytes(place);
+        block[bytes.clone()].copy_from_slice(&value.to_le_bytes()[..bytes.len()]);
+        seal(&mut block);
+        read_foods(&block).is_ok()
     })
 }
 

@@ -5,9 +5,9 @@ use jurengate_model::state::State;
 
 /// Checks the month that got `before` and answered `after`: the model's steps, all within the
 /// margin, lead from one to the other, and their uptakes and exits add up. Answers 30 × T.
-pub fn check_month(site: &[u8], book: &[u8], before: &State, after: &State) -> u128 {
-    let uptake = month_uptake(site, book, before.month).expect("an accepted month has its uptake");
-    let (end, flow) = audit_month(site, book, before).expect("the model accepts it too");
+pub fn check_month(site: &[u8], foods: Option<&[u8]>, book: &[u8], before: &State, after: &State) -> u128 {
+    let uptake = month_uptake(site, foods, book, before.month).expect("an accepted month has its uptake");
+    let (end, flow) = audit_month(site, foods, book, before).expect("the model accepts it too");
     assert_eq!((end, flow.steps, flow.outside), (*after, 180, 0));
     assert_eq!(flow.uptake, uptake);
     for ledger in 0..3 {

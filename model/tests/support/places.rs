@@ -1,6 +1,7 @@
-//! Every place of a site file, a row and a state by its name, as the model has it.
+//! Every place of a site file, a foods block, a row and a state by its name, as the model has it.
 
 use jurengate_model::book::column;
+use jurengate_model::foods::{food, local, FOODS as FOOD_COUNT, LOCAL_FOODS};
 use jurengate_model::site::{place, AGES};
 use jurengate_model::state::{compartment, ledger, COMPARTMENTS};
 
@@ -43,6 +44,54 @@ pub const SITE: [Place; 34] = [
     ("passive_alternate", place::PASSIVE + 4, 1),
     ("saturation", place::SATURATION, 1),
     ("mother", place::MOTHER, 1),
+];
+
+/// Where the leads of the fifteen foods, the local shares and the local leads begin among the figures.
+const LEADS: usize = AGES * FOOD_COUNT;
+const SHARES: usize = LEADS + FOOD_COUNT;
+const LOCAL_LEADS: usize = SHARES + LOCAL_FOODS;
+
+/// The figures of a foods block: grams, of which those of an age stand fifteen places behind the age before, then
+/// those that stand singly.
+pub const FOODS: [Place; 38] = [
+    ("beverage_grams", food::BEVERAGE, AGES),
+    ("bread_grams", food::BREAD, AGES),
+    ("canned_fruit_grams", food::CANNED_FRUIT, AGES),
+    ("canned_vegetable_grams", food::CANNED_VEGETABLE, AGES),
+    ("candy_grams", food::CANDY, AGES),
+    ("dairy_grams", food::DAIRY, AGES),
+    ("fresh_fruit_grams", food::FRESH_FRUIT, AGES),
+    ("fresh_vegetable_grams", food::FRESH_VEGETABLE, AGES),
+    ("formula_grams", food::FORMULA, AGES),
+    ("infant_food_grams", food::INFANT, AGES),
+    ("juice_grams", food::JUICE, AGES),
+    ("meat_grams", food::MEAT, AGES),
+    ("nuts_grams", food::NUTS, AGES),
+    ("pasta_grams", food::PASTA, AGES),
+    ("sauce_grams", food::SAUCE, AGES),
+    ("beverage_lead", LEADS + food::BEVERAGE, 1),
+    ("bread_lead", LEADS + food::BREAD, 1),
+    ("canned_fruit_lead", LEADS + food::CANNED_FRUIT, 1),
+    ("canned_vegetable_lead", LEADS + food::CANNED_VEGETABLE, 1),
+    ("candy_lead", LEADS + food::CANDY, 1),
+    ("dairy_lead", LEADS + food::DAIRY, 1),
+    ("fresh_fruit_lead", LEADS + food::FRESH_FRUIT, 1),
+    ("fresh_vegetable_lead", LEADS + food::FRESH_VEGETABLE, 1),
+    ("formula_lead", LEADS + food::FORMULA, 1),
+    ("infant_food_lead", LEADS + food::INFANT, 1),
+    ("juice_lead", LEADS + food::JUICE, 1),
+    ("meat_lead", LEADS + food::MEAT, 1),
+    ("nuts_lead", LEADS + food::NUTS, 1),
+    ("pasta_lead", LEADS + food::PASTA, 1),
+    ("sauce_lead", LEADS + food::SAUCE, 1),
+    ("home_vegetable_share", SHARES + local::VEGETABLE, 1),
+    ("home_fruit_share", SHARES + local::FRUIT, 1),
+    ("fish_share", SHARES + local::FISH, 1),
+    ("game_share", SHARES + local::GAME, 1),
+    ("home_vegetable_lead", LOCAL_LEADS + local::VEGETABLE, 1),
+    ("home_fruit_lead", LOCAL_LEADS + local::FRUIT, 1),
+    ("fish_lead", LOCAL_LEADS + local::FISH, 1),
+    ("game_lead", LOCAL_LEADS + local::GAME, 1),
 ];
 
 /// The numbers of a row.
