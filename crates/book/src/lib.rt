@@ -71,29 +71,18 @@ fn decode_blocks(book: &[u8], table: &mut [u32]) -> u32
     0
 }
 
-// Sets a table to zeros.
-fn blank(table: &mut [u32])
-    ensures { λ _. ⌜ now (table .exit) ≡ replicate (length (now (table .entry))) 0 ⌝ }
-{
-    let mut i: usize = 0;
-    while i < table.len() {
-        table[i] = 0;
-        i = i + 1;
-    }
-}
-
 // Reads a book into a table of its 85 rows of 23 numbers, and answers 0; or answers why it is refused, with a blank table.
 pub fn read_book(book: &[u8], table: &mut [u32; TABLE_NUMBERS]) -> u32
     ensures { λ r. ⌜ r ≡ bookRefusal (now (book .entry)) ⌝ }
     ensures { λ _. ⌜ now (table .exit) ≡ bookTable (now (book .entry)) ⌝ }
 {
     if book.len() != BOOK_BYTES {
-        blank(table);
+        block::read::blank(table);
         return WRONG_LENGTH;
     }
     let refusal = decode_blocks(book, table);
     if refusal != 0 {
-        blank(table);
+        block::read::blank(table);
         return refusal;
     }
     0

@@ -5,29 +5,28 @@ use mathlib.Core.List.{List, [], _∷_}
 use lib.ListN.{length}
 use Rattle.numbers.specs.Choice.{tab}
 use Rattle.numbers.specs.Lists.{totalOf}
-use Rattle.foods.specs.declared.Foods.{Foods}
 use Rattle.site.specs.Fields.{ages}
 use Rattle.foods.specs.Names.{beverage, bread, canFruit, canVeg, candy, dairy, freshFruit, freshVeg, formula, infant, juices, meat, nuts, pasta, sauce, vegetable, fruit, fish, game}
 use Rattle.foods.specs.Figures.{gramsAt, leadOf, shareOf, ownLeadOf, mostGrams, mostLead}
 
 -- E-4d to E-4r: the lead of a food's grams
-unfoldable pub foodLead : Foods → ℕ → ℕ → ℕ
+unfoldable pub foodLead : List ℕ → ℕ → ℕ → ℕ
 foodLead f age food = leadOf f food * gramsAt f age food
 
 -- E-5d: what fish and game leave of the meat (E-5a)
-unfoldable pub inMeat : Foods → ℕ → ℕ
+unfoldable pub inMeat : List ℕ → ℕ → ℕ
 inMeat f age = (100 - shareOf f fish - shareOf f game) * foodLead f age meat / 100
 
 -- E-5e to E-5h: of a canned or fresh food, half of what is not home-grown (E-5b, E-5c)
-unfoldable pub halfBought : Foods → ℕ → ℕ → ℕ → ℕ
+unfoldable pub halfBought : List ℕ → ℕ → ℕ → ℕ → ℕ
 halfBought f age food own = (100 - shareOf f own) * foodLead f age food / 200
 
 -- E-5i, E-5j: home-grown, its share of the canned and fresh grams together, by its own lead
-unfoldable pub homeGrown : Foods → ℕ → ℕ → ℕ → ℕ → ℕ
+unfoldable pub homeGrown : List ℕ → ℕ → ℕ → ℕ → ℕ → ℕ
 homeGrown f age canned fresh own = shareOf f own * (gramsAt f age canned + gramsAt f age fresh) * ownLeadOf f own / 100
 
 -- E-5k, E-5l: fish or game, its share of the meat's grams, by its own lead
-unfoldable pub caught : Foods → ℕ → ℕ → ℕ
+unfoldable pub caught : List ℕ → ℕ → ℕ → ℕ
 caught f age own = shareOf f own * gramsAt f age meat * ownLeadOf f own / 100
 
 -- E-5m to E-5v, in that order: the foods that count whole
@@ -37,11 +36,11 @@ wholeFoods = dairy ∷ juices ∷ nuts ∷ bread ∷ pasta ∷ beverage ∷ cand
 abbrev pub wholeCount : ℕ
 wholeCount = length wholeFoods
 
-unfoldable pub inWholeFoods : Foods → ℕ → ℕ
+unfoldable pub inWholeFoods : List ℕ → ℕ → ℕ
 inWholeFoods f age = totalOf (foodLead f age) wholeFoods
 
 -- the diet intake of an age from 0 to 6: the sum of E-5d to E-5v
-unfoldable pub dietAt : Foods → ℕ → ℕ
+unfoldable pub dietAt : List ℕ → ℕ → ℕ
 dietAt f age =
     inMeat f age  -- E-5d
     + halfBought f age canVeg vegetable  -- E-5e
@@ -55,7 +54,7 @@ dietAt f age =
     + inWholeFoods f age  -- E-5m to E-5v
 
 -- the diet intakes of ages 0 to 6
-unfoldable pub dietsOf : Foods → List ℕ
+unfoldable pub dietsOf : List ℕ → List ℕ
 dietsOf f = tab ages (dietAt f)
 
 -- the most lead of a food, pg/day, and the most diet: figures within their limits keep below them

@@ -1,28 +1,37 @@
--- The figures of a foods block, and their limits (document 02, [1]).
+-- The 128 figures of a foods block, in a row in the block's order, and their limits (document 02, [1]).
 -- Assumes nothing.
 use Prim.Native.Nat.{ℕ, _+_, _*_}
 use mathlib.Core.Bool.{Bool, _&&_}
-use mathlib.Core.List.{List, _++_}
-use lib.ListN.{length, getD}
+use mathlib.Core.List.{List}
+use lib.ListN.{getD}
 use lib.Dec.{leb}
 use Rattle.numbers.specs.Choice.{every}
-use Rattle.foods.specs.declared.Foods.{Foods}
-use Rattle.foods.specs.Names.{foodCount, vegetable, fruit, fish, game}
+use Rattle.foods.specs.Names.{foodCount, amountCount, vegetable, fruit, fish, game, ownCount}
+
+-- behind the grams stand the leads, the shares of own foods and their leads
+abbrev pub leadsFrom : ℕ  -- 105
+leadsFrom = amountCount
+
+abbrev pub sharesFrom : ℕ  -- 120
+sharesFrom = leadsFrom + foodCount
+
+abbrev pub ownLeadsFrom : ℕ  -- 124
+ownLeadsFrom = sharesFrom + ownCount
 
 -- the grams of a food a day at an age from 0 to 6: fifteen for each age
-abbrev pub gramsAt : Foods → ℕ → ℕ → ℕ
-gramsAt f age food = getD (f .grams) (foodCount * age + food) 0
+abbrev pub gramsAt : List ℕ → ℕ → ℕ → ℕ
+gramsAt f age food = getD f (foodCount * age + food) 0
 
 -- a food's lead, pg/g
-abbrev pub leadOf : Foods → ℕ → ℕ
-leadOf f food = getD (f .leads) food 0
+abbrev pub leadOf : List ℕ → ℕ → ℕ
+leadOf f food = getD f (leadsFrom + food) 0
 
 -- the share that an own food takes of others, in hundredths, and its lead, pg/g
-abbrev pub shareOf : Foods → ℕ → ℕ
-shareOf f own = getD (f .shares) own 0
+abbrev pub shareOf : List ℕ → ℕ → ℕ
+shareOf f own = getD f (sharesFrom + own) 0
 
-abbrev pub ownLeadOf : Foods → ℕ → ℕ
-ownLeadOf f own = getD (f .«own_leads») own 0
+abbrev pub ownLeadOf : List ℕ → ℕ → ℕ
+ownLeadOf f own = getD f (ownLeadsFrom + own) 0
 
 -- the limits: of an amount, g/day, of a lead, pg/g, and of a share, in hundredths
 abbrev pub mostGrams : ℕ
@@ -35,17 +44,13 @@ abbrev pub mostShare : ℕ
 mostShare = 100
 
 -- no share takes more than there is, else 10: fish and game take it together
-unfoldable pub sharesFit : Foods → Bool
+unfoldable pub sharesFit : List ℕ → Bool
 sharesFit f = leb (shareOf f fish + shareOf f game) mostShare && (leb (shareOf f vegetable) mostShare && leb (shareOf f fruit) mostShare)
 
--- each number of a list is at most a limit
-unfoldable pub allWithin : ℕ → List ℕ → Bool
-allWithin limit l = every (λ (k : ℕ). leb (getD l k 0) limit) 0 (length l)
+-- each of n figures from a place is at most a limit
+unfoldable pub allWithin : ℕ → List ℕ → ℕ → ℕ → Bool
+allWithin limit f from n = every (λ (k : ℕ). leb (getD f k 0) limit) from n
 
 -- each amount and each lead is within its limit, else 11
-unfoldable pub amountsFit : Foods → Bool
-amountsFit f = allWithin mostGrams (f .grams) && (allWithin mostLead (f .leads) && allWithin mostLead (f .«own_leads»))
-
--- the figures in a row, 128 of them
-unfoldable pub figuresIn : Foods → List ℕ
-figuresIn f = f .grams ++ f .leads ++ f .shares ++ f .«own_leads»
+unfoldable pub amountsFit : List ℕ → Bool
+amountsFit f = allWithin mostGrams f 0 amountCount && (allWithin mostLead f leadsFrom foodCount && allWithin mostLead f ownLeadsFrom ownCount)

@@ -1,10 +1,13 @@
--- For the contracts between the functions: what putting numbers into a row does.
+-- For the contracts between the functions: what decoding a foods block leaves. No open call's contract needs it.
 -- Assumes nothing.
 use mathlib.Core.Path.{_≡_}
-use mathlib.Core.List.{List, _++_}
-use Prim.Native.Nat.{ℕ, _+_}
-use lib.ListN.{length, take}
+use Prim.Native.Nat.{ℕ}
+use mathlib.Core.List.{List}
+use lib.ListN.{length}
+use Rattle.foods.specs.Names.{figureCount}
+use Rattle.foods.specs.Foods.{figuresOf, foodsRefusal}
 
--- the row begins with what stood before `at`, and then with the numbers
-pub record PutAt (before : List ℕ) (at : ℕ) (numbers after : List ℕ) : Type 0 where
-  pub begins : take (at + length numbers) after ≡ take at before ++ numbers
+pub record Decoded (block after : List ℕ) (r : ℕ) : Type 0 where
+  pub refusal : r ≡ foodsRefusal block
+  pub long : length after ≡ figureCount
+  pub figures : r ≡ 0 → after ≡ figuresOf block

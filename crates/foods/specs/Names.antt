@@ -71,6 +71,9 @@ game = 3
 abbrev pub ownCount : ℕ
 ownCount = 4
 
--- all figures of a block, 128
+-- the figures of 32 bits: leads, shares, own leads; and all figures, 128
+abbrev pub wideCount : ℕ
+wideCount = foodCount + ownCount + ownCount
+
 abbrev pub figureCount : ℕ
-figureCount = amountCount + foodCount + ownCount + ownCount
+figureCount = amountCount + wideCount

@@ -1,8 +1,9 @@
 // The limits of a foods block's figures.
-use super::Foods;
 use super::places;
 ghost use mathlib.Core.Path.{_≡_};
-ghost use Prim.Native.Nat.{_+_};
+ghost use Prim.Native.Nat.{_+_, _-_, _≤_};
+ghost use lib.ListN.{length};
+ghost use Rattle.foods.specs.Names.{figureCount};
 ghost use Rattle.foods.specs.Figures.{sharesFit, allWithin, amountsFit};
 
 const SHARE_MOST: u32 = 100; // hundredths
@@ -21,28 +22,33 @@ fn together(a: u32, b: u32) -> u64
 }
 
 // Does no share take more than there is?
-pub fn shares_fit(foods: Foods) -> bool
-    ensures { λ r. ⌜ r ≡ sharesFit foods ⌝ }
+pub fn shares_fit(figures: &[u32]) -> bool
+    requires { ⌜ length (now figures) ≡ figureCount ⌝ }
+    ensures { λ r. ⌜ r ≡ sharesFit (now (figures .entry)) ⌝ }
 {
-    let shares = foods.shares;
-    let caught = together(shares[places::FISH], shares[places::GAME]);
+    let fish = figures[places::SHARES_FROM + places::FISH];
+    let game = figures[places::SHARES_FROM + places::GAME];
+    let vegetable = figures[places::SHARES_FROM + places::VEGETABLE];
+    let fruit = figures[places::SHARES_FROM + places::FRUIT];
+    let caught = together(fish, game);
     if caught > CAUGHT_MOST {
         return false;
     }
-    if shares[places::VEGETABLE] > SHARE_MOST {
+    if vegetable > SHARE_MOST {
         return false;
     }
-    shares[places::FRUIT] <= SHARE_MOST
+    fruit <= SHARE_MOST
 }
 
-// Is each number at most a limit?
-fn all_within(limit: u32, numbers: &[u32]) -> bool
-    ensures { λ r. ⌜ r ≡ allWithin limit (now (numbers .entry)) ⌝ }
+// Is each of the figures from `from` up to `to` at most a limit?
+fn all_within(limit: u32, figures: &[u32], from: usize, to: usize) -> bool
+    requires { ⌜ to ≤ length (now figures) ⌝ }
+    ensures { λ r. ⌜ r ≡ allWithin limit (now (figures .entry)) from (to - from) ⌝ }
 {
-    let mut k: usize = 0;
-    while k < numbers.len() {
-        let number = numbers[k];
-        if number > limit {
+    let mut k = from;
+    while k < to {
+        let figure = figures[k];
+        if figure > limit {
             return false;
         }
         k = k + 1;
@@ -51,15 +57,13 @@ fn all_within(limit: u32, numbers: &[u32]) -> bool
 }
 
 // Is each amount, and each lead, within its limit?
-pub fn amounts_fit(foods: Foods) -> bool
-    ensures { λ r. ⌜ r ≡ amountsFit foods ⌝ }
+pub fn amounts_fit(figures: &[u32]) -> bool
+    requires { ⌜ length (now figures) ≡ figureCount ⌝ }
+    ensures { λ r. ⌜ r ≡ amountsFit (now (figures .entry)) ⌝ }
 {
-    let grams = foods.grams;
-    let leads = foods.leads;
-    let own_leads = foods.own_leads;
-    if all_within(GRAMS_MOST, &grams) {
-        if all_within(LEAD_MOST, &leads) {
-            all_within(LEAD_MOST, &own_leads)
+    if all_within(GRAMS_MOST, figures, 0, places::AMOUNTS) {
+        if all_within(LEAD_MOST, figures, places::LEADS_FROM, places::SHARES_FROM) {
+            all_within(LEAD_MOST, figures, places::OWN_LEADS_FROM, places::FIGURES)
         } else {
             false
         }

@@ -46,3 +46,14 @@ pub const FISH: usize = 2;
 pub const GAME: usize = 3;
 
 pub const OWN_FOODS: usize = 4;
+
+// The figures in a row: behind the grams the leads, the shares of own foods and their leads. All but the grams have 32 bits.
+pub const LEADS_FROM: usize = AMOUNTS; // 105
+
+pub const SHARES_FROM: usize = LEADS_FROM + FOODS; // 120
+
+pub const OWN_LEADS_FROM: usize = SHARES_FROM + OWN_FOODS; // 124
+
+pub const WIDE_FIGURES: usize = FOODS + OWN_FOODS + OWN_FOODS; // 23
+
+pub const FIGURES: usize = AMOUNTS + WIDE_FIGURES; // 128

@@ -1,4 +1,4 @@
--- `book::blank` meets its contract: the numbers set so far are zeros.
+-- `block::read::blank` meets its contract: the numbers set so far are zeros.
 -- Assumes nothing.
 use mathlib.Core.Path.{refl, _∙_}
 use Prim.Native.Nat.{_-_}
@@ -6,23 +6,23 @@ use lib.ListN.{length}
 use borrow.Author.Needs.{needs}
 use Rattle.numbers.proofs.Every.{tab-zeros}
 use Rattle.numbers.proofs.Loops.{Filled, filled-none, filled-next, filled-all}
-use Rattle.book.proofs.blank.Statement.{statement}
-use Rattle.book.proofs.blank.Tie as tie
+use Rattle.block.proofs.read.blank.Statement.{statement}
+use Rattle.block.proofs.read.blank.Tie as tie
 
 abbrev Inv-loop : tie.InvT-loop
-Inv-loop table₀ i₀ table i = Filled (λ k. 0) (length table₀) table i
+Inv-loop numbers₀ i₀ numbers i = Filled (λ k. 0) (length numbers₀) numbers i
 
 abbrev μ-loop : tie.MeasureT-loop
-μ-loop table₀ i₀ table i = length table₀ - i
+μ-loop numbers₀ i₀ numbers i = length numbers₀ - i
 
 loop-holds : tie.Need-loop-holds Inv-loop μ-loop
 loop-holds c = filled-none _ _ refl
 
-mul-table : tie.Need-mul-table Inv-loop μ-loop
-mul-table c = search needs
+mul-numbers : tie.Need-mul-numbers Inv-loop μ-loop
+mul-numbers c = search needs
 
-slice-write-table : tie.Need-slice-write-table Inv-loop μ-loop
-slice-write-table c = search needs
+slice-write-numbers : tie.Need-slice-write-numbers Inv-loop μ-loop
+slice-write-numbers c = search needs
 
 add-i : tie.Need-add-i Inv-loop μ-loop
 add-i c = search needs
@@ -46,8 +46,8 @@ blank-spec =
     Inv-loop
     μ-loop
     loop-holds
-    mul-table
-    slice-write-table
+    mul-numbers
+    slice-write-numbers
     add-i
     loop-less
     loop-again
