@@ -11,7 +11,6 @@ use Rattle.site.specs.Fields.{ages, at, byAge, dietGroup}
 use Rattle.site.specs.Scenario.{scenarioOf, withDiets}
 use Rattle.site.specs.Site.{siteFields, siteRefusal, readSite}
 use Rattle.site.proofs.FieldsWithin.{accepted-scenario}
-use Rattle.foods.specs.declared.Foods.{Foods}
 use Rattle.foods.specs.Foods.{figuresOf}
 use Rattle.foods.proofs.FiguresWithin.{accepted-figures}
 use Rattle.diet.specs.Diet.{dietsOf}
@@ -45,8 +44,8 @@ unfolding filesRefusal beforeBookRefusal exposureAt
 with-foods site foods book passed =
     record {
       refusal = rw passed;
-      scenario = ap (λ (f : Foods). withDiets (dietsOf f) (readSite site .scenario)) (accepted-figures foods passed);
-      diet = λ age h. ap (λ (f : Foods). at (dietsOf f) age) (accepted-figures foods passed) ∙ diet-of-age (figuresOf foods) age (omega arith);
+      scenario = ap (λ (f : List ℕ). withDiets (dietsOf f) (readSite site .scenario)) (accepted-figures foods passed);
+      diet = λ age h. ap (λ (f : List ℕ). at (dietsOf f) age) (accepted-figures foods passed) ∙ diet-of-age (figuresOf foods) age (omega arith);
     }
 
 pub uptake-law : UptakeLaw

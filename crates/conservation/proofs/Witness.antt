@@ -24,11 +24,9 @@ use Rattle.site.specs.Scenario.{scenarioOf, withDiets, motherOf}
 use Rattle.site.specs.Site.{siteForm, siteRefusal, readAs, readSite}
 use Rattle.site.proofs.FieldsWithin.{read-refusal}
 use Rattle.site.proofs.ReadBack.{fields-read-back}
-use Rattle.foods.specs.declared.FoodsRead.{FoodsRead}
-use Rattle.foods.specs.Limits.{Sized}
-use Rattle.foods.specs.Foods.{foodsRefusal, readFoods, foodsBody}
-use Rattle.foods.specs.Foods as foods
-use Rattle.foods.proofs.FiguresWithin.{read-refusal as foods-read-refusal}
+use Rattle.foods.specs.Names.{figureCount}
+use Rattle.foods.specs.Foods.{foodsBody}
+use Rattle.foods.specs.Laws.{FoodsRead}
 use Rattle.foods.proofs.ReadBack.{body-passes as foods-body-passes, figures-read-back}
 use Rattle.diet.specs.Diet.{foodLead, inMeat, halfBought, homeGrown, caught, inWholeFoods, dietAt, dietsOf}
 use Rattle.diet.specs.Bench.{workedFoods}
@@ -201,23 +199,15 @@ site-scenario = ap (λ (x : SiteRead). x .scenario) site-read
 
 -- ---- the foods block
 
-worked-sized : Sized workedFoods
+worked-long : length workedFoods ≡ figureCount
 unfolding workedFoods
-worked-sized = record { its-grams = refl; its-leads = refl; its-shares = refl; own-leads = refl }
+worked-long = refl
 
-foods-read : readFoods witnessFoods ≡ foods.readAs workedFoods
+foods-read : FoodsRead witnessFoods workedFoods
 unfolding witnessFoods
 foods-read =
-    ap readFoods (sym (written-sealed (foodsBody workedFoods) zeros (foods-body-passes workedFoods worked-sized .long) zeros-long))
-    ∙ figures-read-back workedFoods zeros worked-sized (worked-diet .shares) (worked-diet .amounts) zeros-long
-
-foods-pass : foodsRefusal witnessFoods ≡ 0
-unfolding foods.readAs
-foods-pass = sym (foods-read-refusal witnessFoods) ∙ ap (λ (x : FoodsRead). x .refusal) foods-read
-
-foods-figures : readFoods witnessFoods .foods ≡ workedFoods
-unfolding foods.readAs
-foods-figures = ap (λ (x : FoodsRead). x .foods) foods-read
+    rw (sym (written-sealed (foodsBody workedFoods) zeros (foods-body-passes workedFoods worked-long .long) zeros-long))
+    (figures-read-back workedFoods zeros worked-long (worked-diet .shares) (worked-diet .amounts) zeros-long)
 
 -- ---- birth
 
@@ -389,8 +379,8 @@ unfolding filesRefusal beforeBookRefusal
 reads-fed =
     record {
       lengths = both-long;
-      files = rw (both-long, site-passes, foods-pass, book-reads .refusal);
-      scenario-is = ap₂ withDiets (ap dietsOf foods-figures ∙ diets-are) site-scenario;
+      files = rw (both-long, site-passes, foods-read .refusal, book-reads .refusal);
+      scenario-is = ap₂ withDiets (ap dietsOf (foods-read .figures) ∙ diets-are) site-scenario;
       table-is = book-reads .table;
     }
 
@@ -418,7 +408,7 @@ something-accepted =
       month = first-month-passes reads eats;
       uptake = first-uptake witnessFiles _ reads ∙ uptake-is;
       run = run-passes reads eats;
-      foods = foods-pass;
+      foods = foods-read .refusal;
       fed-birth = ap (λ (x : BirthAnswer). x .refusal) (birth-is reads-fed eats-fed);
       fed-month = first-month-passes reads-fed eats-fed;
       fed-uptake = first-uptake fedFiles fed reads-fed ∙ uptake-fed;

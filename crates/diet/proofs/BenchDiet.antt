@@ -6,12 +6,12 @@ use Rattle.numbers.specs.Sums.{sumTo}
 use Rattle.block.specs.Block.{wordAt, checkOf}
 use Rattle.block.specs.Writer.{le16, le32, laidBy, bodyWith}
 use Rattle.foods.specs.Figures.{sharesFit, allWithin, amountsFit}
-use Rattle.foods.specs.Foods.{blankFoods, foodsBody}
+use Rattle.foods.specs.Foods.{foodsBody}
 use Rattle.diet.specs.Diet.{foodLead, inMeat, halfBought, homeGrown, caught, inWholeFoods, dietAt}
 use Rattle.diet.specs.Bench.{workedFoods, WorkedDiet}
 
 pub worked-diet : WorkedDiet
-unfolding workedFoods blankFoods every sharesFit allWithin amountsFit sumTo wordAt checkOf le16 le32 laidBy bodyWith foodsBody
+unfolding workedFoods every sharesFit allWithin amountsFit sumTo wordAt checkOf le16 le32 laidBy bodyWith foodsBody
     foodLead inMeat halfBought homeGrown caught inWholeFoods dietAt
 worked-diet =
     record {

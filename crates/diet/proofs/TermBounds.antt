@@ -2,6 +2,7 @@
 -- Assumes nothing.
 use mathlib.Core.Path.{_≡_, refl, ap, ap₂}
 use mathlib.Core.Bool.{true}
+use mathlib.Core.List.{List}
 use Prim.Native.Nat.{ℕ, _+_, _-_, _*_, _/_, _<_}
 use native.Mathlib.Nat.{mul-le-mul}
 use native.Mathlib.Omega.{arith}
@@ -12,7 +13,6 @@ use Rattle.numbers.specs.Bounds.{Is}
 use Rattle.numbers.specs.Choice.{every}
 use Rattle.numbers.specs.Sums.{sumTo}
 use Rattle.numbers.proofs.Every.{every-at}
-use Rattle.foods.specs.declared.Foods.{Foods}
 use Rattle.foods.specs.Names.{foodCount, meat, fish, game}
 use Rattle.foods.specs.Figures.{gramsAt, leadOf, shareOf, ownLeadOf, mostGrams, mostLead, mostShare}
 use Rattle.diet.specs.Diet.{foodLead, inMeat, halfBought, homeGrown, caught, wholeFoods, wholeCount, inWholeFoods, mostOfFood}
@@ -37,7 +37,7 @@ left p = record { value = ap (λ (n : ℕ). 100 - n) (p .value); small = omega a
 pub left-of-two : {x y a b : ℕ} → Is x mostShare a → Is y mostShare b → Is (100 - x - y) 100 (100 - a - b)
 left-of-two p q = record { value = ap₂ (λ (m n : ℕ). 100 - m - n) (p .value) (q .value); small = omega arith }
 
-module _ (f : Foods) (age : ℕ) where
+module _ (f : List ℕ) (age : ℕ) where
   pub food-is : (food : ℕ) {lead grams : ℕ} → Is (leadOf f food) mostLead lead → Is (gramsAt f age food) mostGrams grams
       → Is (foodLead f age food) mostOfFood (lead * grams)
   unfolding foodLead

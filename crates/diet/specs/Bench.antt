@@ -2,24 +2,22 @@
 -- Assumes nothing.
 use mathlib.Core.Path.{_≡_}
 use mathlib.Core.Bool.{true}
-use mathlib.Core.List.{[], _∷_, _++_, map}
+use mathlib.Core.List.{List, [], _∷_, _++_, map}
+use Prim.Native.Nat.{ℕ}
 use lib.ListN.{replicate}
 use Rattle.block.specs.Block.{checkOf}
-use Rattle.foods.specs.declared.Foods.{Foods}
 use Rattle.foods.specs.Names.{canFruit, canVeg, freshFruit, freshVeg, vegetable, fruit, fish, game}
 use Rattle.foods.specs.Figures.{sharesFit, amountsFit}
-use Rattle.foods.specs.Foods.{blankFoods, foodsBody}
+use Rattle.foods.specs.Foods.{blankFigures, foodsBody}
 use Rattle.diet.specs.Diet.{foodLead, inMeat, halfBought, homeGrown, caught, wholeFoods, dietAt}
 
--- age 0 alone eats
-unfoldable pub workedFoods : Foods
+-- the grams of age 0, which alone eats, fifteen leads, four shares and their four leads
+unfoldable pub workedFoods : List ℕ
 workedFoods =
-    record {
-      grams = (63 ∷ 32 ∷ 10 ∷ 4 ∷ 6 ∷ 171 ∷ 36 ∷ 34 ∷ 124 ∷ 20 ∷ 53 ∷ 35 ∷ 6 ∷ 40 ∷ 1 ∷ []) ++ replicate 90 0;
-      leads = 7 ∷ 11 ∷ 13 ∷ 17 ∷ 19 ∷ 3 ∷ 23 ∷ 29 ∷ 5 ∷ 33 ∷ 37 ∷ 41 ∷ 43 ∷ 47 ∷ 53 ∷ [];
-      shares = 37 ∷ 25 ∷ 30 ∷ 15 ∷ [];
-      «own_leads» = 61 ∷ 67 ∷ 71 ∷ 73 ∷ [];
-    }
+    (63 ∷ 32 ∷ 10 ∷ 4 ∷ 6 ∷ 171 ∷ 36 ∷ 34 ∷ 124 ∷ 20 ∷ 53 ∷ 35 ∷ 6 ∷ 40 ∷ 1 ∷ []) ++ replicate 90 0
+    ++ (7 ∷ 11 ∷ 13 ∷ 17 ∷ 19 ∷ 3 ∷ 23 ∷ 29 ∷ 5 ∷ 33 ∷ 37 ∷ 41 ∷ 43 ∷ 47 ∷ 53 ∷ [])
+    ++ (37 ∷ 25 ∷ 30 ∷ 15 ∷ [])
+    ++ (61 ∷ 67 ∷ 71 ∷ 73 ∷ [])
 
 -- its figures are accepted, and each term and the sum are computed; so are the checks of its block and of a block of zeros
 pub record WorkedDiet : Type 0 where
@@ -40,4 +38,4 @@ pub record WorkedDiet : Type 0 where
   pub diet : dietAt workedFoods 0 ≡ 11_085
   pub next-age : dietAt workedFoods 1 ≡ 0
   pub check : checkOf (foodsBody workedFoods) ≡ 109_834
-  pub blank-check : checkOf (foodsBody blankFoods) ≡ 3
+  pub blank-check : checkOf (foodsBody blankFigures) ≡ 3

@@ -3,9 +3,10 @@
 use mathlib.Core.Path.{_≡_}
 use mathlib.Core.List.{List}
 use Prim.Native.Nat.{ℕ, _≤_}
-use Rattle.foods.specs.Foods.{foodsRefusal, readFoods}
+use Rattle.site.specs.Fields.{lastAge}
+use Rattle.foods.specs.Foods.{foodsRefusal, foodsFigures}
 use Rattle.diet.specs.Diet.{mostDiet, dietAt}
 
 -- the diet of an accepted block is at most 1.9 * 10^11 pg/day at each age
 abbrev pub DietWithin : Type 0
-DietWithin = (block : List ℕ) → foodsRefusal block ≡ 0 → (age : ℕ) → dietAt (readFoods block .foods) age ≤ mostDiet
+DietWithin = (block : List ℕ) → foodsRefusal block ≡ 0 → (age : ℕ) → age ≤ lastAge → dietAt (foodsFigures block) age ≤ mostDiet

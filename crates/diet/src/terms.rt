@@ -1,7 +1,7 @@
 // The terms of the diet intake of an age, E-5d to E-5v, each with its own floor.
-use super::figures;
-use foods::Foods;
+use super::figure;
 use foods::places;
+use foods::places::FIGURES;
 ghost use mathlib.Core.Path.{_≡_};
 ghost use Prim.Native.Nat.{_*_, _/_, _<_};
 ghost use lib.ListN.{getD};
@@ -11,13 +11,13 @@ ghost use Rattle.foods.specs.Names.{foodCount, ownCount};
 ghost use Rattle.foods.specs.Limits.{FoodsLimits};
 ghost use Rattle.diet.specs.Diet.{foodLead, inMeat, halfBought, homeGrown, caught, wholeFoods, wholeCount, inWholeFoods, mostOfFood};
 
-// The foods that count whole, E-5m to E-5v.
-const WHOLE_COUNT: usize = 10;
-
 // A whole in hundredths, and in halves of them.
 const HUNDREDTHS: u64 = 100;
 
 const HALF_HUNDREDTHS: u64 = 200;
+
+// The foods that count whole, E-5m to E-5v.
+const WHOLE_COUNT: usize = 10;
 
 const WHOLE_FOODS: [usize; WHOLE_COUNT] = [
     places::DAIRY,
@@ -33,59 +33,59 @@ const WHOLE_FOODS: [usize; WHOLE_COUNT] = [
 ];
 
 // The lead of a food's grams, E-4d to E-4r.
-fn food_lead(foods: Foods, age: usize, food: usize) -> u64
-    requires { ⌜ FoodsLimits foods × ((age < ages) × (food < foodCount)) ⌝ }
-    ensures { λ r. ⌜ Is (foodLead foods age food) mostOfFood r ⌝ }
+fn food_lead(figures: &[u32; FIGURES], age: usize, food: usize) -> u64
+    requires { ⌜ FoodsLimits (now figures) × ((age < ages) × (food < foodCount)) ⌝ }
+    ensures { λ r. ⌜ Is (foodLead (now (figures .entry)) age food) mostOfFood r ⌝ }
 {
-    let lead = figures::lead_of(foods, food);
-    let grams = figures::grams_at(foods, age, food);
+    let lead = figure::lead_of(figures, food);
+    let grams = figure::grams_at(figures, age, food);
     lead * grams
 }
 
 // What fish and game leave of the meat.
-pub fn in_meat(foods: Foods, age: usize) -> u64
-    requires { ⌜ FoodsLimits foods × (age < ages) ⌝ }
-    ensures { λ r. ⌜ Is (inMeat foods age) mostOfFood r ⌝ }
+pub fn in_meat(figures: &[u32; FIGURES], age: usize) -> u64
+    requires { ⌜ FoodsLimits (now figures) × (age < ages) ⌝ }
+    ensures { λ r. ⌜ Is (inMeat (now (figures .entry)) age) mostOfFood r ⌝ }
 {
-    let fish = figures::share_of(foods, places::FISH);
-    let game = figures::share_of(foods, places::GAME);
-    let meat = food_lead(foods, age, places::MEAT);
+    let fish = figure::share_of(figures, places::FISH);
+    let game = figure::share_of(figures, places::GAME);
+    let meat = food_lead(figures, age, places::MEAT);
     let left = HUNDREDTHS - fish - game;
     left * meat / HUNDREDTHS
 }
 
 // A canned or fresh food: half of what is not home-grown.
-pub fn half_bought(foods: Foods, age: usize, food: usize, own: usize) -> u64
-    requires { ⌜ FoodsLimits foods × ((age < ages) × ((food < foodCount) × (own < ownCount))) ⌝ }
-    ensures { λ r. ⌜ Is (halfBought foods age food own) (mostOfFood / 2) r ⌝ }
+pub fn half_bought(figures: &[u32; FIGURES], age: usize, food: usize, own: usize) -> u64
+    requires { ⌜ FoodsLimits (now figures) × ((age < ages) × ((food < foodCount) × (own < ownCount))) ⌝ }
+    ensures { λ r. ⌜ Is (halfBought (now (figures .entry)) age food own) (mostOfFood / 2) r ⌝ }
 {
-    let share = figures::share_of(foods, own);
-    let bought = food_lead(foods, age, food);
+    let share = figure::share_of(figures, own);
+    let bought = food_lead(figures, age, food);
     let left = HUNDREDTHS - share;
     left * bought / HALF_HUNDREDTHS
 }
 
 // A home-grown food: its share of the canned and fresh grams together, by its own lead.
-pub fn home_grown(foods: Foods, age: usize, canned: usize, fresh: usize, own: usize) -> u64
-    requires { ⌜ FoodsLimits foods × ((age < ages) × ((canned < foodCount) × ((fresh < foodCount) × (own < ownCount)))) ⌝ }
-    ensures { λ r. ⌜ Is (homeGrown foods age canned fresh own) (2 * mostOfFood) r ⌝ }
+pub fn home_grown(figures: &[u32; FIGURES], age: usize, canned: usize, fresh: usize, own: usize) -> u64
+    requires { ⌜ FoodsLimits (now figures) × ((age < ages) × ((canned < foodCount) × ((fresh < foodCount) × (own < ownCount)))) ⌝ }
+    ensures { λ r. ⌜ Is (homeGrown (now (figures .entry)) age canned fresh own) (2 * mostOfFood) r ⌝ }
 {
-    let share = figures::share_of(foods, own);
-    let canned_grams = figures::grams_at(foods, age, canned);
-    let fresh_grams = figures::grams_at(foods, age, fresh);
-    let lead = figures::own_lead_of(foods, own);
+    let share = figure::share_of(figures, own);
+    let canned_grams = figure::grams_at(figures, age, canned);
+    let fresh_grams = figure::grams_at(figures, age, fresh);
+    let lead = figure::own_lead_of(figures, own);
     let grams = canned_grams + fresh_grams;
     share * grams * lead / HUNDREDTHS
 }
 
 // Fish or game: its share of the meat's grams, by its own lead.
-pub fn caught(foods: Foods, age: usize, own: usize) -> u64
-    requires { ⌜ FoodsLimits foods × ((age < ages) × (own < ownCount)) ⌝ }
-    ensures { λ r. ⌜ Is (caught foods age own) mostOfFood r ⌝ }
+pub fn caught(figures: &[u32; FIGURES], age: usize, own: usize) -> u64
+    requires { ⌜ FoodsLimits (now figures) × ((age < ages) × (own < ownCount)) ⌝ }
+    ensures { λ r. ⌜ Is (caught (now (figures .entry)) age own) mostOfFood r ⌝ }
 {
-    let share = figures::share_of(foods, own);
-    let grams = figures::grams_at(foods, age, places::MEAT);
-    let lead = figures::own_lead_of(foods, own);
+    let share = figure::share_of(figures, own);
+    let grams = figure::grams_at(figures, age, places::MEAT);
+    let lead = figure::own_lead_of(figures, own);
     share * grams * lead / HUNDREDTHS
 }
 
@@ -98,15 +98,15 @@ fn whole_food(i: usize) -> usize
 }
 
 // The foods that count whole.
-pub fn in_whole_foods(foods: Foods, age: usize) -> u64
-    requires { ⌜ FoodsLimits foods × (age < ages) ⌝ }
-    ensures { λ r. ⌜ Is (inWholeFoods foods age) (wholeCount * mostOfFood) r ⌝ }
+pub fn in_whole_foods(figures: &[u32; FIGURES], age: usize) -> u64
+    requires { ⌜ FoodsLimits (now figures) × (age < ages) ⌝ }
+    ensures { λ r. ⌜ Is (inWholeFoods (now (figures .entry)) age) (wholeCount * mostOfFood) r ⌝ }
 {
     let mut sum: u64 = 0;
     let mut i: usize = 0;
     while i < WHOLE_COUNT {
         let food = whole_food(i);
-        let lead = food_lead(foods, age, food);
+        let lead = food_lead(figures, age, food);
         sum = sum + lead;
         i = i + 1;
     }

@@ -10,9 +10,7 @@ use Rattle.site.specs.declared.SiteRead.{SiteRead}
 use Rattle.site.specs.Scenario.{withDiets}
 use Rattle.site.specs.Site.{siteRefusal, readSite}
 use Rattle.site.proofs.FieldsWithin.{read-refusal}
-use Rattle.foods.specs.declared.FoodsRead.{FoodsRead}
-use Rattle.foods.specs.Foods.{foodsRefusal, readFoods}
-use Rattle.foods.proofs.FiguresWithin.{read-refusal as foods-read-refusal}
+use Rattle.foods.specs.Foods.{foodsRefusal, foodsFigures}
 use Rattle.diet.specs.Diet.{dietsOf}
 use Rattle.book.specs.Book.{bookRefusal, bookTable}
 use Rattle.files.specs.declared.FilesRead.{FilesRead}
@@ -24,20 +22,17 @@ module _ (foods : List ℕ) (s : Scenario) where
   pub no-foods : {has : Bool} → has ≡ false → FoodsTaken (foodsIf has foods) s (record { refusal = 0; scenario = s })
   no-foods e = rw e (record { refusal = refl; scenario = λ z. refl })
 
-  module _ {has : Bool} (e : has ≡ true) {read : FoodsRead} (er : read ≡ readFoods foods) where
-    its-number : read .refusal ≡ foodsRefusal foods
-    its-number = ap (λ (y : FoodsRead). y .refusal) er ∙ foods-read-refusal foods
+  module _ {has : Bool} (e : has ≡ true) {r : ℕ} (er : r ≡ foodsRefusal foods) where
+    pub refused-by-foods : (r ≡ 0 → ⊥) → FoodsTaken (foodsIf has foods) s (record { refusal = r; scenario = s })
+    refused-by-foods h = rw e (record { refusal = er; scenario = λ z. absurd (h z) })
 
-    pub refused-by-foods : (read .refusal ≡ 0 → ⊥) → FoodsTaken (foodsIf has foods) s (record { refusal = read .refusal; scenario = s })
-    refused-by-foods h = rw e (record { refusal = its-number; scenario = λ z. absurd (h z) })
-
-    pub foods-taken : read .refusal ≡ 0 → {diets : List ℕ} → diets ≡ dietsOf (read .foods) → {fed : Scenario} → fed ≡ withDiets diets s
-        → FoodsTaken (foodsIf has foods) s (record { refusal = 0; scenario = fed })
-    foods-taken passed ed ef =
+    pub foods-taken : r ≡ 0 → {figures : List ℕ} → figures ≡ foodsFigures foods → {diets : List ℕ} → diets ≡ dietsOf figures
+        → {fed : Scenario} → fed ≡ withDiets diets s → FoodsTaken (foodsIf has foods) s (record { refusal = 0; scenario = fed })
+    foods-taken passed eg ed ef =
         rw e
         (record {
-          refusal = sym passed ∙ its-number;
-          scenario = λ z. ef ∙ ap (λ (diets : List ℕ). withDiets diets s) (ed ∙ ap (λ (y : FoodsRead). dietsOf (y .foods)) er);
+          refusal = sym passed ∙ er;
+          scenario = λ z. ef ∙ ap (λ (diets : List ℕ). withDiets diets s) (ed ∙ ap dietsOf eg);
         })
 
 module _ (f : Files) where

@@ -9,7 +9,7 @@ use Rattle.numbers.specs.Choice.{unless, firstOf}
 use Rattle.site.specs.declared.Scenario.{Scenario}
 use Rattle.site.specs.Scenario.{withDiets}
 use Rattle.site.specs.Site.{siteRefusal, readSite}
-use Rattle.foods.specs.Foods.{foodsRefusal, readFoods}
+use Rattle.foods.specs.Foods.{foodsRefusal, foodsFigures}
 use Rattle.diet.specs.Diet.{dietsOf}
 use Rattle.block.specs.Block.{blockBytes}
 use Rattle.book.specs.Book.{bookBytes, bookRefusal, bookTable}
@@ -65,7 +65,7 @@ filesRefusal f = firstOf (filesRefusals f)
 -- a scenario with the diets of a foods block, if there is one
 abbrev pub withFoods : FoodsFile → Scenario → Scenario
 withFoods none s = s
-withFoods (handed foods) s = withDiets (dietsOf (readFoods foods .foods)) s
+withFoods (handed foods) s = withDiets (dietsOf (foodsFigures foods)) s
 
 -- the scenario of the site file and the foods block, and the table of the book's rows
 abbrev pub scenarioIn : Files → Scenario

@@ -2,6 +2,7 @@
 use block::WRONG_LENGTH;
 use book::BOOK_BYTES;
 use book::TABLE_NUMBERS;
+use foods::places::FIGURES;
 use site::SITE_BYTES;
 use site::Scenario;
 ghost use mathlib.Core.Path.{_≡_};
@@ -32,13 +33,12 @@ fn take_foods(scenario: Scenario, has_foods: bool, foods: &[u8]) -> FilesRead
     ensures { λ r. ⌜ FoodsTaken (foodsIf «has_foods» (now (foods .entry))) scenario r ⌝ }
 {
     if has_foods {
-        let read = foods::read_foods(foods);
-        let refusal = read.refusal;
+        let mut figures = [0u32; FIGURES];
+        let refusal = foods::read_foods(foods, &mut figures);
         if refusal != 0 {
             return FilesRead { refusal, scenario };
         }
-        let eaten = read.foods;
-        let diets = diet::diets_of(eaten);
+        let diets = diet::diets_of(&figures);
         let fed = site::with_diets(scenario, diets);
         return FilesRead {
             refusal: 0,

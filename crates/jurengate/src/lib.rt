@@ -1,14 +1,13 @@
 // The C interface for firmware: include/jurengate.h declares these calls.
 use book::TABLE_NUMBERS;
-use foods::rows::FIGURES;
+use foods::places::FIGURES;
 use kinetics::State;
 use site::places::FIELDS;
 ghost use mathlib.Core.Path.{_≡_};
 ghost use lib.ListN.{length};
 ghost use Rattle.block.specs.Writer.{writerRefusal, written};
 ghost use Rattle.site.specs.Site.{readSite};
-ghost use Rattle.foods.specs.Figures.{figuresIn};
-ghost use Rattle.foods.specs.Foods.{readFoods};
+ghost use Rattle.foods.specs.Foods.{foodsRefusal, foodsFigures};
 ghost use Rattle.book.specs.Book.{bookRefusal, bookTable};
 ghost use Rattle.steps.specs.Steps.{stepsADay};
 ghost use Rattle.engine.specs.Birth.{birthOf};
@@ -71,8 +70,7 @@ pub extern "C" fn jurengate_read_site(site: &[u8], fields: &mut [u32; FIELDS]) -
     let scenario = read.scenario;
     let read_fields = scenario.fields;
     *fields = read_fields;
-    let of_site = read.refusal;
-    of_site
+    read.refusal
 }
 
 // Reads a rate book: its refusal, and its 85 rows of 23 numbers, zeros if it is refused.
@@ -88,13 +86,10 @@ pub extern "C" fn jurengate_read_book(book: &[u8], table: &mut [u32; TABLE_NUMBE
 // Reads a foods block: its refusal, and its 128 figures, 105 grams, 15 leads, 4 shares, 4 leads, zeros if it is refused.
 #[no_mangle]
 pub extern "C" fn jurengate_read_foods(foods: &[u8], figures: &mut [u32; FIGURES]) -> u32
-    ensures { λ r. ⌜ r ≡ readFoods (now (foods .entry)) .refusal ⌝ }
-    ensures { λ _. ⌜ now (figures .exit) ≡ figuresIn (readFoods (now (foods .entry)) .foods) ⌝ }
+    ensures { λ r. ⌜ r ≡ foodsRefusal (now (foods .entry)) ⌝ }
+    ensures { λ _. ⌜ now (figures .exit) ≡ foodsFigures (now (foods .entry)) ⌝ }
 {
-    let read = foods::read_foods(foods);
-    let its_foods = read.foods;
-    *figures = foods::rows::figures_in(its_foods);
-    let of_foods = read.refusal;
+    let of_foods = foods::read_foods(foods, figures);
     of_foods
 }
 

@@ -11,10 +11,10 @@ use Rattle.diet.proofs.diets_of.Statement.{statement}
 use Rattle.diet.proofs.diets_of.Tie as tie
 
 abbrev Inv-loop : tie.InvT-loop
-Inv-loop foods diets₀ age₀ diets age = Filled (dietAt foods) ages diets age
+Inv-loop figures diets₀ age₀ diets age = Filled (dietAt figures) ages diets age
 
 abbrev μ-loop : tie.MeasureT-loop
-μ-loop foods diets₀ age₀ diets age = ages - age
+μ-loop figures diets₀ age₀ diets age = ages - age
 
 loop-holds : tie.Need-loop-holds Inv-loop μ-loop
 loop-holds c = filled-none _ _ refl

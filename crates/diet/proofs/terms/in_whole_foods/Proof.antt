@@ -1,5 +1,6 @@
 -- `diet::terms::in_whole_foods` meets its contract: the sum so far is over the foods passed.
 -- Assumes nothing.
+use denote.Ref.{now}
 use borrow.Author.Needs.{needs}
 use mathlib.Core.Path.{ap, _∙_}
 use Prim.Native.Nat.{_-_}
@@ -11,10 +12,10 @@ use Rattle.diet.proofs.terms.in_whole_foods.Statement.{statement}
 use Rattle.diet.proofs.terms.in_whole_foods.Tie as tie
 
 abbrev Inv-loop : tie.InvT-loop
-Inv-loop foods age sum₀ i₀ sum i = Summed (wholeAt foods age) wholeCount mostOfFood 0 sum i
+Inv-loop figures age sum₀ i₀ sum i = Summed (wholeAt figures age) wholeCount mostOfFood 0 sum i
 
 abbrev μ-loop : tie.MeasureT-loop
-μ-loop foods age sum₀ i₀ sum i = wholeCount - i
+μ-loop figures age sum₀ i₀ sum i = wholeCount - i
 
 loop-holds : tie.Need-loop-holds Inv-loop μ-loop
 loop-holds c = summed-none _ _ _ _
@@ -42,14 +43,14 @@ loop-again c =
     let l = c .before .before .before in
     let a = l .before .args in
     summed-next (l .loop .inv) (c .before .before .loop-test .taken)
-    (c .food-lead .ensures .value ∙ ap (foodLead (a .foods) (a .age)) (c .before .whole-food .ensures)) (c .food-lead .ensures .small)
+    (c .food-lead .ensures .value ∙ ap (foodLead (now (a .figures)) (a .age)) (c .before .whole-food .ensures)) (c .food-lead .ensures .small)
 
 returns : tie.Need-returns Inv-loop μ-loop
 returns c =
     let l = c .before .loop in
     let a = c .before .before .args in
     record {
-      value = omega (arith, summed-all (l .inv) (c .loop-test .left), whole-sum (a .foods) (a .age));
+      value = omega (arith, summed-all (l .inv) (c .loop-test .left), whole-sum (now (a .figures)) (a .age));
       small = omega (arith, l .inv .small, l .inv .reach);
     }
 

@@ -1,0 +1,32 @@
+-- `diet::figure::lead_of` meets its contract: the lead is within its limit.
+-- Assumes nothing.
+use mathlib.Core.Path.{refl}
+use Prim.Native.Nat.{_≤_}
+use native.Mathlib.Omega.{arith}
+use denote.Ref.{now}
+use borrow.Author.Needs.{needs}
+use Rattle.numbers.proofs.Bounds.{is}
+use Rattle.foods.specs.Figures.{leadOf, mostLead}
+use Rattle.diet.proofs.figure.lead_of.Statement.{statement}
+use Rattle.diet.proofs.figure.lead_of.Tie as tie
+
+within : (c : tie.Start) → leadOf (now (c .args .figures)) (c .args .food) ≤ mostLead
+within c = c .pre .0 .its-leads _ (c .pre .1)
+
+add-result : tie.Need-add-result
+add-result c = search needs
+
+mul-result : tie.Need-mul-result
+mul-result c = search needs
+
+element-copy-out-result : tie.Need-element-copy-out-result
+element-copy-out-result c = search needs
+
+cast-result : tie.Need-cast-result
+cast-result c = omega (arith, within (c .before))
+
+returns : tie.Need-returns
+returns c = is refl (within (c .before))
+
+pub lead-of-spec : {M : Type 1} → statement M
+lead-of-spec = tie.close (tie.spec add-result mul-result element-copy-out-result cast-result returns)
