@@ -58,7 +58,7 @@
 #define JURENGATE_AGES 7             /* ages 0 to 6, for which a site file has ten fields each */
 #define JURENGATE_FOODS_BYTES 512    /* a foods block */
 #define JURENGATE_FOODS 15           /* its foods, for each of which it has grams at each age, and a lead figure */
-#define JURENGATE_FOODS_FIGURES 128  /* its figures: 105 grams, 15 leads, and shares and leads of four foods of one's own */
+#define JURENGATE_FOODS_FIGURES 128  /* its figures: 105 grams, 15 leads, and shares and leads of four local foods */
 #define JURENGATE_BOOK_BYTES 8704    /* a rate book */
 #define JURENGATE_BOOK_BLOCKS 17     /* its blocks */
 #define JURENGATE_BLOCK_ROWS 5       /* rows of a block */

@@ -123,6 +123,36 @@ fn one_floor_diet() -> u128 {
     (200 * whole + 2 * hundredths + halves) / 200
 }
 
+/// The diet of one gram with this lead, of which one hundredth is bought, or grown, caught or hunted.
+fn a_hundredth(eaten: Eaten, lead: u32) -> u128 {
+    let mut foods = Foods::default();
+    match eaten {
+        Eaten::Food(food) => {
+            (foods.grams[0][food], foods.leads[food]) = (1, lead);
+            foods.local_shares = [99, 99, 60, 39];
+        }
+        Eaten::Local(local) => {
+            let food = [food::CANNED_VEGETABLE, food::FRESH_FRUIT, food::MEAT, food::MEAT][local];
+            foods.grams[0][food] = 1;
+            (foods.local_shares[local], foods.local_leads[local]) = (1, lead);
+        }
+    }
+    foods.diet(0)
+}
+
+/// Each food that is split has its own floor, over 100 or 200, and no earlier one.
+#[test]
+fn a_hundredth_of_a_split_food_is_floored_once() {
+    let halved = [food::CANNED_VEGETABLE, food::FRESH_VEGETABLE, food::CANNED_FRUIT, food::FRESH_FRUIT]
+        .map(Eaten::Food);
+    for eaten in halved {
+        assert_eq!([199, 200, 399, 400].map(|lead| a_hundredth(eaten, lead)), [0, 1, 1, 2], "{eaten:?}");
+    }
+    for eaten in [Eaten::Food(food::MEAT)].into_iter().chain((0..LOCAL_FOODS).map(Eaten::Local)) {
+        assert_eq!([99, 100, 199, 200].map(|lead| a_hundredth(eaten, lead)), [0, 1, 1, 2], "{eaten:?}");
+    }
+}
+
 #[test]
 fn the_worked_figures_check() {
     let check = |foods: &Foods| word32(&foods_file(foods), BODY_BYTES);
