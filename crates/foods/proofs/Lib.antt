@@ -1,5 +1,4 @@
 pub mod FigureTests
 pub mod FiguresWithin
-pub mod PutNumbers
 pub mod ReadAnswers
 pub mod ReadBack

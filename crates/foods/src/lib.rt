@@ -44,7 +44,7 @@ fn decode(block: &[u8], figures: &mut [u32]) -> u32
     if refusal != 0 {
         return refusal;
     }
-    block::read::read_words(block, FIELDS_AT, &mut figures[..AMOUNTS]);
+    block::read::read_words(block, FIELDS_AT, &mut figures[0..AMOUNTS]);
     block::read::read_fields(block, LEADS_AT, &mut figures[AMOUNTS..FIGURES]);
     let shares = limits::shares_fit(figures);
     let amounts = limits::amounts_fit(figures);

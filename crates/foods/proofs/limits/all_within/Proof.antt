@@ -4,7 +4,6 @@ use borrow.Author.Needs.{needs}
 use borrow.Author.Tests.{le-leb, lt-leb}
 use mathlib.Core.Path.{_≡_}
 use Prim.Native.Nat.{_-_}
-use lib.ListN.{length}
 use Rattle.numbers.specs.Choice.{every}
 use Rattle.numbers.proofs.Every.{every-next, every-stop, every-done}
 use Rattle.foods.specs.Figures.{allWithin}
@@ -13,19 +12,19 @@ use Rattle.foods.proofs.limits.all_within.Statement.{statement}
 use Rattle.foods.proofs.limits.all_within.Tie as tie
 
 abbrev Inv-loop : tie.InvT-loop
-Inv-loop limit numbers k₀ k = every (within limit numbers) k (length numbers - k) ≡ allWithin limit numbers
+Inv-loop limit figures from to k₀ k = every (within limit figures) k (to - k) ≡ allWithin limit figures from (to - from)
 
 abbrev μ-loop : tie.MeasureT-loop
-μ-loop limit numbers k₀ k = length numbers - k
+μ-loop limit figures from to k₀ k = to - k
 
 loop-holds : tie.Need-loop-holds Inv-loop μ-loop
-loop-holds c = within-start _ _
+loop-holds c = within-start _ _ _ _
 
-mul-number : tie.Need-mul-number Inv-loop μ-loop
-mul-number c = search needs
+mul-figure : tie.Need-mul-figure Inv-loop μ-loop
+mul-figure c = search needs
 
-shared-slice-read-number : tie.Need-shared-slice-read-number Inv-loop μ-loop
-shared-slice-read-number c = search needs
+shared-slice-read-figure : tie.Need-shared-slice-read-figure Inv-loop μ-loop
+shared-slice-read-figure c = search needs
 
 returns : tie.Need-returns Inv-loop μ-loop
 returns c =
@@ -53,8 +52,8 @@ all-within-spec =
     Inv-loop
     μ-loop
     loop-holds
-    mul-number
-    shared-slice-read-number
+    mul-figure
+    shared-slice-read-figure
     returns
     add-k
     loop-less

@@ -5,29 +5,23 @@ use borrow.Author.Needs.{needs}
 use Rattle.foods.proofs.limits.amounts_fit.Statement.{statement}
 use Rattle.foods.proofs.limits.amounts_fit.Tie as tie
 
-slice-aggregate-all-within : tie.Need-slice-aggregate-all-within
-slice-aggregate-all-within c = search needs
-
 all-within-requires : tie.Need-all-within-requires
 all-within-requires c κs = search needs
 
-slice-aggregate-all-within-2 : tie.Need-slice-aggregate-all-within-2
-slice-aggregate-all-within-2 c = search needs
-
 all-within-requires-2 : tie.Need-all-within-requires-2
 all-within-requires-2 c κs = search needs
-
-slice-aggregate-all-within-3 : tie.Need-slice-aggregate-all-within-3
-slice-aggregate-all-within-3 c = search needs
 
 all-within-requires-3 : tie.Need-all-within-requires-3
 all-within-requires-3 c κs = search needs
 
 returns : tie.Need-returns
-returns c = own-leads-last _ (c .before .before .before .before .before .before .all-within .ensures) (c .before .before .before .before .before .if1 .taken) (c .before .before .before .all-within2 .ensures) (c .before .before .if2 .taken) (c .all-within3 .ensures)
+returns c =
+    let grams = c .before .before .before .before in
+    own-leads-last _ (grams .all-within .ensures) (c .before .before .before .if1 .taken) (c .before .before .all-within2 .ensures) (c .before .if2 .taken)
+    (c .all-within3 .ensures)
 
 returns-2 : tie.Need-returns-2
-returns-2 c = leads-over _ (c .before .before .before .before .all-within .ensures) (c .before .before .before .if1 .taken) (c .before .all-within2 .ensures) (c .if2 .left)
+returns-2 c = leads-over _ (c .before .before .before .all-within .ensures) (c .before .before .if1 .taken) (c .before .all-within2 .ensures) (c .if2 .left)
 
 returns-3 : tie.Need-returns-3
 returns-3 c = grams-over _ (c .before .all-within .ensures) (c .if1 .left)
@@ -36,11 +30,8 @@ pub amounts-fit-spec : {M : Type 1} → statement M
 amounts-fit-spec =
     tie.close
     (tie.spec
-    slice-aggregate-all-within
     all-within-requires
-    slice-aggregate-all-within-2
     all-within-requires-2
-    slice-aggregate-all-within-3
     all-within-requires-3
     returns
     returns-2
