@@ -13,11 +13,14 @@ read-foods-requires c κs = search needs
 returns : tie.Need-returns
 returns c =
     let read = c .before in
-    let a = read .before .before .before .args in
-    refused-by-foods (now (a .foods)) (a .scenario) (read .before .if1 .taken) (read .read-foods .ensures) (c .if2 .taken)
+    let told = read .before .before in
+    let a = told .before .before .args in
+    refused-by-foods (now (a .foods)) (a .scenario) (told .if1 .taken) (read .read-foods .ensures .0) (c .if2 .taken)
 
 diets-of-requires : tie.Need-diets-of-requires
-diets-of-requires c κs = read-within _ (c .before .before .read-foods .ensures) (c .before .if2 .left)
+diets-of-requires c κs =
+    let read = c .before .before .read-foods .ensures in
+    read-within _ (read .0) (read .1) (c .before .if2 .left)
 
 with-diets-requires : tie.Need-with-diets-requires
 with-diets-requires c κs = search needs
@@ -25,9 +28,11 @@ with-diets-requires c κs = search needs
 returns-2 : tie.Need-returns-2
 returns-2 c =
     let diets = c .before in
-    let read = diets .before .before .before in
-    let a = read .before .before .before .args in
-    foods-taken (now (a .foods)) (a .scenario) (read .before .if1 .taken) (read .read-foods .ensures) (diets .before .before .if2 .left)
+    let passed = diets .before .before in
+    let read = passed .before in
+    let told = read .before .before in
+    let a = told .before .before .args in
+    foods-taken (now (a .foods)) (a .scenario) (told .if1 .taken) (read .read-foods .ensures .0) (passed .if2 .left) (read .read-foods .ensures .1)
     (diets .diets-of .ensures) (c .with-diets .ensures)
 
 returns-3 : tie.Need-returns-3
