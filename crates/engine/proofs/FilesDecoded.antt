@@ -1,35 +1,27 @@
 -- Accepted files give a scenario and a table within their limits.
 -- Assumes nothing.
-use mathlib.Core.Path.{_≡_, refl, sym, ap, ap₂, _∙_}
+use mathlib.Core.Path.{_≡_, sym, ap, ap₂, _∙_}
 use mathlib.Core.List.{List}
 use Prim.Native.Nat.{ℕ}
 use lib.ListN.{length, length-replicate}
 use Rattle.numbers.proofs.Every.{length-tab}
 use Rattle.numbers.proofs.Refusals.{answer-both}
 use Rattle.site.specs.declared.Scenario.{Scenario}
-use Rattle.site.specs.Fields.{fieldsFit, motherIn}
-use Rattle.site.specs.Site.{readSite}
 use Rattle.site.proofs.FieldsWithin.{accepted-fit, mother-accepted}
 use Rattle.exposure.proofs.ExposureWithin.{exposure-within}
 use Rattle.book.specs.Book.{tableNumbers, bookRefusal, numbersOf, blankTable, bookTable}
 use Rattle.book.proofs.RowsWithin.{rows-within}
-use Rattle.files.specs.Files.{FoodsFile, none, handed, Files, filesRefusal, withFoods, scenarioIn, tableIn}
+use Rattle.files.specs.Files.{Files, filesRefusal, scenarioIn, tableIn}
 use Rattle.files.specs.declared.FilesRead.{FilesRead}
 use Rattle.files.specs.Internal.{FilesAreRead}
 use Rattle.files.proofs.FilesPassed.{site-passed, book-passed}
 use Rattle.child.specs.Internal.{Decoded}
 
--- foods leave a scenario's fields as they are
-fields-kept : (file : FoodsFile) (s : Scenario) → withFoods file s .fields ≡ s .fields
-fields-kept none s = refl
-fields-kept (handed foods) s = refl
-
 pub files-decoded : (f : Files) → filesRefusal f ≡ 0 → Decoded (scenarioIn f) (tableIn f)
 files-decoded f passed =
-    let kept = fields-kept (f .foods) (readSite (f .site) .scenario) in
     record {
-      exposure = exposure-within (scenarioIn f) (ap fieldsFit kept ∙ accepted-fit (f .site) (site-passed f passed));
-      mother = rw (ap motherIn kept) (mother-accepted (f .site) (site-passed f passed));
+      exposure = exposure-within (scenarioIn f) (accepted-fit (f .site) (site-passed f passed));
+      mother = mother-accepted (f .site) (site-passed f passed);
       row = rows-within (f .book) (book-passed f passed);
     }
 

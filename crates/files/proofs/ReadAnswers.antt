@@ -13,27 +13,23 @@ use Rattle.site.proofs.FieldsWithin.{read-refusal}
 use Rattle.foods.specs.Foods.{foodsRefusal, foodsFigures}
 use Rattle.diet.specs.Diet.{dietsOf}
 use Rattle.book.specs.Book.{bookRefusal, bookTable}
+use Rattle.files.specs.declared.DietsRead.{DietsRead}
 use Rattle.files.specs.declared.FilesRead.{FilesRead}
 use Rattle.files.specs.Files.{foodsIf, Files, lengthRefusal, foodsRefusalIn, beforeBookRefusal, filesRefusal, withFoods}
-use Rattle.files.specs.Internal.{FoodsTaken, BeforeBookRead, FilesAreRead}
+use Rattle.files.specs.Internal.{DietsTaken, BeforeBookRead, FilesAreRead}
 
 -- the foods block, if there is one
-module _ (foods : List ℕ) (s : Scenario) where
-  pub no-foods : {has : Bool} → has ≡ false → FoodsTaken (foodsIf has foods) s (record { refusal = 0; scenario = s })
-  no-foods e = rw e (record { refusal = refl; scenario = λ z. refl })
+module _ (foods own : List ℕ) where
+  pub no-foods : {has : Bool} → has ≡ false → DietsTaken (foodsIf has foods) own (record { refusal = 0; diets = own })
+  no-foods e = rw e (record { refusal = refl; diets = λ z. refl })
 
   module _ {has : Bool} (e : has ≡ true) {r : ℕ} (er : r ≡ foodsRefusal foods) where
-    pub refused-by-foods : (r ≡ 0 → ⊥) → FoodsTaken (foodsIf has foods) s (record { refusal = r; scenario = s })
-    refused-by-foods h = rw e (record { refusal = er; scenario = λ z. absurd (h z) })
+    pub refused-by-foods : (r ≡ 0 → ⊥) → DietsTaken (foodsIf has foods) own (record { refusal = r; diets = own })
+    refused-by-foods h = rw e (record { refusal = er; diets = λ z. absurd (h z) })
 
     pub foods-taken : r ≡ 0 → {figures : List ℕ} → figures ≡ foodsFigures foods → {diets : List ℕ} → diets ≡ dietsOf figures
-        → {fed : Scenario} → fed ≡ withDiets diets s → FoodsTaken (foodsIf has foods) s (record { refusal = 0; scenario = fed })
-    foods-taken passed eg ed ef =
-        rw e
-        (record {
-          refusal = sym passed ∙ er;
-          scenario = λ z. ef ∙ ap (λ (diets : List ℕ). withDiets diets s) (ed ∙ ap dietsOf eg);
-        })
+        → DietsTaken (foodsIf has foods) own (record { refusal = 0; diets = diets })
+    foods-taken passed eg ed = rw e (record { refusal = sym passed ∙ er; diets = λ z. ed ∙ ap dietsOf eg })
 
 module _ (f : Files) where
   -- before the book
@@ -51,12 +47,17 @@ module _ (f : Files) where
       refused-by-site h =
           record { refusal = sym (rw (sym el ∙ long, ← its-refusal) (orElse-first (x .refusal) _ h)); scenario = λ z. absurd (h z) }
 
-      pub foods-decide : x .refusal ≡ 0 → {r : FilesRead} → FoodsTaken (f .foods) (x .scenario) r → BeforeBookRead f r
+      pub foods-decide : x .refusal ≡ 0 → {y : DietsRead} → DietsTaken (f .foods) (x .scenario .diets) y
+          → {fed : Scenario} → fed ≡ withDiets (y .diets) (x .scenario) → BeforeBookRead f (record { refusal = y .refusal; scenario = fed })
       unfolding beforeBookRefusal
-      foods-decide passed taken =
+      foods-decide passed taken made =
           record {
             refusal = taken .refusal ∙ sym (rw (sym el ∙ long, sym its-refusal ∙ passed) (orElse-last (foodsRefusalIn (f .foods))));
-            scenario = λ z. taken .scenario z ∙ ap (λ (y : SiteRead). withFoods (f .foods) (y .scenario)) ex;
+            scenario =
+                λ z.
+                made
+                ∙ ap (λ (diets : List ℕ). withDiets diets (x .scenario)) (taken .diets z)
+                ∙ ap (λ (y : SiteRead). withFoods (f .foods) (y .scenario)) ex;
           }
 
   -- and the book

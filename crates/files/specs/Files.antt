@@ -62,12 +62,15 @@ filesRefusals f = beforeBookRefusal f ∷ bookRefusal (f .book) ∷ []
 unfoldable pub filesRefusal : Files → ℕ
 filesRefusal f = firstOf (filesRefusals f)
 
--- a scenario with the diets of a foods block, if there is one
-abbrev pub withFoods : FoodsFile → Scenario → Scenario
-withFoods none s = s
-withFoods (handed foods) s = withDiets (dietsOf (foodsFigures foods)) s
+-- the diets of a foods block, if there is one, else the site file's own
+abbrev pub dietsWith : FoodsFile → List ℕ → List ℕ
+dietsWith none own = own
+dietsWith (handed foods) own = dietsOf (foodsFigures foods)
 
--- the scenario of the site file and the foods block, and the table of the book's rows
+-- the scenario of the site file with these diets, and the table of the book's rows
+abbrev pub withFoods : FoodsFile → Scenario → Scenario
+withFoods file s = withDiets (dietsWith file (s .diets)) s
+
 abbrev pub scenarioIn : Files → Scenario
 scenarioIn f = withFoods (f .foods) (readSite (f .site) .scenario)
 

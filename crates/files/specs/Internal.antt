@@ -3,14 +3,14 @@
 use mathlib.Core.Path.{_≡_}
 use Prim.Native.Nat.{ℕ}
 use mathlib.Core.List.{List}
-use Rattle.site.specs.declared.Scenario.{Scenario}
+use Rattle.files.specs.declared.DietsRead.{DietsRead}
 use Rattle.files.specs.declared.FilesRead.{FilesRead}
-use Rattle.files.specs.Files.{FoodsFile, Files, foodsRefusalIn, withFoods, beforeBookRefusal, filesRefusal, scenarioIn, tableIn}
+use Rattle.files.specs.Files.{FoodsFile, Files, foodsRefusalIn, dietsWith, beforeBookRefusal, filesRefusal, scenarioIn, tableIn}
 
--- the diets of a foods block, if there is one, are taken into a scenario
-pub record FoodsTaken (file : FoodsFile) (s : Scenario) (r : FilesRead) : Type 0 where
+-- the diets of a foods block, if there is one, are taken in place of a site file's own
+pub record DietsTaken (file : FoodsFile) (own : List ℕ) (r : DietsRead) : Type 0 where
   pub refusal : r .refusal ≡ foodsRefusalIn file
-  pub scenario : r .refusal ≡ 0 → r .scenario ≡ withFoods file s
+  pub diets : r .refusal ≡ 0 → r .diets ≡ dietsWith file own
 
 -- what comes before the book is read
 pub record BeforeBookRead (f : Files) (r : FilesRead) : Type 0 where

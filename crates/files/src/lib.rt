@@ -5,14 +5,21 @@ use book::TABLE_NUMBERS;
 use foods::places::FIGURES;
 use site::SITE_BYTES;
 use site::Scenario;
+use site::places::AGES;
 ghost use mathlib.Core.Path.{_≡_};
 ghost use Rattle.files.specs.Files.{foodsIf, filesOf, filesIf, lengthRefusal};
-ghost use Rattle.files.specs.Internal.{FoodsTaken, BeforeBookRead, FilesAreRead};
+ghost use Rattle.files.specs.Internal.{DietsTaken, BeforeBookRead, FilesAreRead};
 
 // What reading a call's files answers: a refusal, or 0 and the scenario.
 pub struct FilesRead {
     pub refusal: u32,
     pub scenario: Scenario,
+}
+
+// What reading a call's foods block answers: a refusal, or 0 and the diet of each age, pg/day.
+pub struct DietsRead {
+    pub refusal: u32,
+    pub diets: [u64; AGES],
 }
 
 // Refusal 1, or 0: the lengths of the site file and the book.
@@ -28,26 +35,28 @@ pub fn length_refusal(site: &[u8], book: &[u8]) -> u32
     0
 }
 
-// Takes the diets of a foods block, if there is one, into a scenario, or answers why the block is refused.
-fn take_foods(scenario: Scenario, has_foods: bool, foods: &[u8]) -> FilesRead
-    ensures { λ r. ⌜ FoodsTaken (foodsIf «has_foods» (now (foods .entry))) scenario r ⌝ }
+// The diets of a foods block, if there is one, else a site file's own; or why the block is refused, with the site file's own.
+fn read_diets(own: [u64; AGES], has_foods: bool, foods: &[u8]) -> DietsRead
+    ensures { λ r. ⌜ DietsTaken (foodsIf «has_foods» (now (foods .entry))) own r ⌝ }
 {
     if has_foods {
         let mut figures = [0u32; FIGURES];
         let refusal = foods::read_foods(foods, &mut figures);
         if refusal != 0 {
-            return FilesRead { refusal, scenario };
+            return DietsRead {
+                refusal,
+                diets: own,
+            };
         }
-        let diets = diet::diets_of(&figures);
-        let fed = site::with_diets(scenario, diets);
-        return FilesRead {
+        let eaten = diet::diets_of(&figures);
+        return DietsRead {
             refusal: 0,
-            scenario: fed,
+            diets: eaten,
         };
     }
-    FilesRead {
+    DietsRead {
         refusal: 0,
-        scenario,
+        diets: own,
     }
 }
 
@@ -72,7 +81,15 @@ fn read_before_book(site: &[u8], has_foods: bool, foods: &[u8], book: &[u8]) -> 
             scenario,
         };
     }
-    take_foods(scenario, has_foods, foods)
+    let own = scenario.diets;
+    let eaten = read_diets(own, has_foods, foods);
+    let of_foods = eaten.refusal;
+    let diets = eaten.diets;
+    let fed = site::with_diets(scenario, diets);
+    FilesRead {
+        refusal: of_foods,
+        scenario: fed,
+    }
 }
 
 // Reads the site file, with a foods block or none, into a scenario and the book into the table, or answers why they are refused.

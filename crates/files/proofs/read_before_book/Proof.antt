@@ -29,17 +29,22 @@ returns-2 c =
     refused-by-site (filesIf (a .has-foods) (now (a .site)) (now (a .foods)) (now (a .book))) (lengths .length-refusal .ensures) (read .read-site .ensures)
     (c .before .if1 .left) (c .if2 .taken)
 
-take-foods-requires : tie.Need-take-foods-requires
-take-foods-requires c κs = search needs
+read-diets-requires : tie.Need-read-diets-requires
+read-diets-requires c κs = search needs
+
+with-diets-requires : tie.Need-with-diets-requires
+with-diets-requires c κs = search needs
 
 returns-3 : tie.Need-returns-3
 returns-3 c =
-    let lengths = c .before .before .before in
+    let diets = c .before .before in
+    let told = diets .before .before in
+    let lengths = told .before .before in
     let read = lengths .before .before in
     let a = read .before .before .before .before .args in
     foods-decide (filesIf (a .has-foods) (now (a .site)) (now (a .foods)) (now (a .book))) (lengths .length-refusal .ensures) (read .read-site .ensures)
-    (c .before .before .if1 .left) (c .before .if2 .left) (c .take-foods .ensures)
+    (told .before .if1 .left) (told .if2 .left) (diets .read-diets .ensures) (c .with-diets .ensures)
 
 pub read-before-book-spec : {M : Type 1} → statement M
 read-before-book-spec =
-    tie.close (tie.spec read-site-requires length-refusal-requires returns returns-2 take-foods-requires returns-3)
+    tie.close (tie.spec read-site-requires length-refusal-requires returns returns-2 read-diets-requires with-diets-requires returns-3)
