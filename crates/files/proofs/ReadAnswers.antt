@@ -48,15 +48,14 @@ module _ (f : Files) where
           record { refusal = sym (rw (sym el ∙ long, ← its-refusal) (orElse-first (x .refusal) _ h)); scenario = λ z. absurd (h z) }
 
       pub foods-decide : x .refusal ≡ 0 → {y : DietsRead} → DietsTaken (f .foods) (x .scenario .diets) y
-          → {fed : Scenario} → fed ≡ withDiets (y .diets) (x .scenario) → BeforeBookRead f (record { refusal = y .refusal; scenario = fed })
+          → BeforeBookRead f (record { refusal = y .refusal; scenario = withDiets (y .diets) (x .scenario) })
       unfolding beforeBookRefusal
-      foods-decide passed taken made =
+      foods-decide passed taken =
           record {
             refusal = taken .refusal ∙ sym (rw (sym el ∙ long, sym its-refusal ∙ passed) (orElse-last (foodsRefusalIn (f .foods))));
             scenario =
                 λ z.
-                made
-                ∙ ap (λ (diets : List ℕ). withDiets diets (x .scenario)) (taken .diets z)
+                ap (λ (diets : List ℕ). withDiets diets (x .scenario)) (taken .diets z)
                 ∙ ap (λ (y : SiteRead). withFoods (f .foods) (y .scenario)) ex;
           }
 

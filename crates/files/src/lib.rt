@@ -66,7 +66,7 @@ fn read_before_book(site: &[u8], has_foods: bool, foods: &[u8], book: &[u8]) -> 
     ensures { λ r. ⌜ BeforeBookRead (filesIf «has_foods» (now (site .entry)) (now (foods .entry)) (now (book .entry))) r ⌝ }
 {
     let read = site::read_site(site);
-    let scenario = read.scenario;
+    let mut scenario = read.scenario;
     let lengths = length_refusal(site, book);
     if lengths != 0 {
         return FilesRead {
@@ -85,10 +85,10 @@ fn read_before_book(site: &[u8], has_foods: bool, foods: &[u8], book: &[u8]) -> 
     let eaten = read_diets(own, has_foods, foods);
     let of_foods = eaten.refusal;
     let diets = eaten.diets;
-    let fed = site::with_diets(scenario, diets);
+    scenario.diets = diets;
     FilesRead {
         refusal: of_foods,
-        scenario: fed,
+        scenario,
     }
 }
 

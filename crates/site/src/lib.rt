@@ -6,7 +6,7 @@ use block::WRONG_LENGTH;
 use places::AGES;
 use places::FIELDS;
 ghost use mathlib.Core.Path.{_≡_};
-ghost use Rattle.site.specs.Scenario.{dustSourceOf, waterSourceOf, dietsIn, scenarioOf, withDiets};
+ghost use Rattle.site.specs.Scenario.{dustSourceOf, waterSourceOf, dietsIn, scenarioOf};
 ghost use Rattle.site.specs.Site.{refusedWith, readSite};
 
 mod limits;
@@ -91,21 +91,6 @@ fn scenario_of(fields: [u32; FIELDS]) -> Scenario
     let dust_source = dust_source_of(fields[places::DUST_MODE]);
     let water_source = water_source_of(fields[places::WATER_MODE]);
     let diets = diets_in(fields);
-    Scenario {
-        fields,
-        diets,
-        dust_source,
-        water_source,
-    }
-}
-
-// A scenario with other diets than its fields have.
-pub fn with_diets(scenario: Scenario, diets: [u64; AGES]) -> Scenario
-    ensures { λ r. ⌜ r ≡ withDiets diets scenario ⌝ }
-{
-    let fields = scenario.fields;
-    let dust_source = scenario.dust_source;
-    let water_source = scenario.water_source;
     Scenario {
         fields,
         diets,

@@ -32,19 +32,16 @@ returns-2 c =
 read-diets-requires : tie.Need-read-diets-requires
 read-diets-requires c κs = search needs
 
-with-diets-requires : tie.Need-with-diets-requires
-with-diets-requires c κs = search needs
-
 returns-3 : tie.Need-returns-3
 returns-3 c =
-    let diets = c .before .before in
+    let diets = c .before in
     let told = diets .before .before in
     let lengths = told .before .before in
     let read = lengths .before .before in
     let a = read .before .before .before .before .args in
     foods-decide (filesIf (a .has-foods) (now (a .site)) (now (a .foods)) (now (a .book))) (lengths .length-refusal .ensures) (read .read-site .ensures)
-    (told .before .if1 .left) (told .if2 .left) (diets .read-diets .ensures) (c .with-diets .ensures)
+    (told .before .if1 .left) (told .if2 .left) (diets .read-diets .ensures)
 
 pub read-before-book-spec : {M : Type 1} → statement M
 read-before-book-spec =
-    tie.close (tie.spec read-site-requires length-refusal-requires returns returns-2 read-diets-requires with-diets-requires returns-3)
+    tie.close (tie.spec read-site-requires length-refusal-requires returns returns-2 read-diets-requires returns-3)
