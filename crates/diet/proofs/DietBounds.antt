@@ -10,8 +10,8 @@ use Rattle.numbers.proofs.Bounds.{is}
 use Rattle.numbers.proofs.Every.{getD-tab}
 use Rattle.numbers.proofs.Sums.{sum-le, sum-same}
 use Rattle.site.specs.Fields.{ages}
-use Rattle.foods.specs.Names.{foodCount, ownCount, canFruit, canVeg, freshFruit, freshVeg, meat, vegetable, fruit, fish, game}
-use Rattle.foods.specs.Figures.{gramsAt, shareOf, ownLeadOf, mostGrams, mostLead, mostShare}
+use Rattle.foods.specs.Names.{foodCount, localCount, canFruit, canVeg, freshFruit, freshVeg, meat, vegetable, fruit, fish, game}
+use Rattle.foods.specs.Figures.{gramsAt, shareOf, localLeadOf, mostGrams, mostLead, mostShare}
 use Rattle.foods.specs.Limits.{FoodsLimits}
 use Rattle.foods.specs.Foods.{foodsFigures}
 use Rattle.foods.proofs.FiguresWithin.{foods-within}
@@ -24,11 +24,11 @@ module _ (f : List ℕ) (limits : FoodsLimits f) (age : ℕ) (of-child : age < a
   grams : (food : ℕ) → food < foodCount → Is (gramsAt f age food) mostGrams (gramsAt f age food)
   grams food h = is refl (limits .its-grams age food of-child h)
 
-  share : (own : ℕ) → own < ownCount → Is (shareOf f own) mostShare (shareOf f own)
-  share own h = is refl (limits .each-share own h)
+  share : (local : ℕ) → local < localCount → Is (shareOf f local) mostShare (shareOf f local)
+  share local h = is refl (limits .each-share local h)
 
-  own-lead : (own : ℕ) → own < ownCount → Is (ownLeadOf f own) mostLead (ownLeadOf f own)
-  own-lead own h = is refl (limits .own-leads own h)
+  local-lead : (local : ℕ) → local < localCount → Is (localLeadOf f local) mostLead (localLeadOf f local)
+  local-lead local h = is refl (limits .local-leads local h)
 
   lead : (food : ℕ) → food < foodCount → Is (foodLead f age food) mostOfFood (foodLead f age food)
   unfolding foodLead
@@ -38,17 +38,17 @@ module _ (f : List ℕ) (limits : FoodsLimits f) (age : ℕ) (of-child : age < a
   unfolding inMeat
   meat-le = meat-is f age (share fish (omega arith)) (share game (omega arith)) (lead meat (omega arith)) .small
 
-  half-le : (food own : ℕ) → food < foodCount → own < ownCount → halfBought f age food own ≤ mostOfFood / 2
+  half-le : (food local : ℕ) → food < foodCount → local < localCount → halfBought f age food local ≤ mostOfFood / 2
   unfolding halfBought
-  half-le food own a b = half-is f age food own (share own b) (lead food a) .small
+  half-le food local a b = half-is f age food local (share local b) (lead food a) .small
 
-  home-le : (canned fresh own : ℕ) → canned < foodCount → fresh < foodCount → own < ownCount → homeGrown f age canned fresh own ≤ 2 * mostOfFood
+  home-le : (canned fresh local : ℕ) → canned < foodCount → fresh < foodCount → local < localCount → homeGrown f age canned fresh local ≤ 2 * mostOfFood
   unfolding homeGrown
-  home-le canned fresh own a b c = home-is f age canned fresh own (share own c) (grams canned a) (grams fresh b) (own-lead own c) .small
+  home-le canned fresh local a b c = home-is f age canned fresh local (share local c) (grams canned a) (grams fresh b) (local-lead local c) .small
 
-  caught-le : (own : ℕ) → own < ownCount → caught f age own ≤ mostOfFood
+  caught-le : (local : ℕ) → local < localCount → caught f age local ≤ mostOfFood
   unfolding caught
-  caught-le own h = caught-is f age own (share own h) (grams meat (omega arith)) (own-lead own h) .small
+  caught-le local h = caught-is f age local (share local h) (grams meat (omega arith)) (local-lead local h) .small
 
   whole-le : inWholeFoods f age ≤ wholeCount * mostOfFood
   unfolding wholeAt

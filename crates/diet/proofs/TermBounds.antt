@@ -14,7 +14,7 @@ use Rattle.numbers.specs.Choice.{every}
 use Rattle.numbers.specs.Sums.{sumTo}
 use Rattle.numbers.proofs.Every.{every-at}
 use Rattle.foods.specs.Names.{foodCount, meat, fish, game}
-use Rattle.foods.specs.Figures.{gramsAt, leadOf, shareOf, ownLeadOf, mostGrams, mostLead, mostShare}
+use Rattle.foods.specs.Figures.{gramsAt, leadOf, shareOf, localLeadOf, mostGrams, mostLead, mostShare}
 use Rattle.diet.specs.Diet.{foodLead, inMeat, halfBought, homeGrown, caught, wholeFoods, wholeCount, inWholeFoods, mostOfFood}
 
 -- sums, products and floors of numbers with bounds
@@ -48,21 +48,21 @@ module _ (f : List ℕ) (age : ℕ) where
   unfolding inMeat
   meat-is fishes games bought = hundredth mostOfFood (times (left-of-two fishes games) bought)
 
-  pub half-is : (food own : ℕ) {share bought : ℕ} → Is (shareOf f own) mostShare share → Is (foodLead f age food) mostOfFood bought
-      → Is (halfBought f age food own) (mostOfFood / 2) ((100 - share) * bought / 200)
+  pub half-is : (food local : ℕ) {share bought : ℕ} → Is (shareOf f local) mostShare share → Is (foodLead f age food) mostOfFood bought
+      → Is (halfBought f age food local) (mostOfFood / 2) ((100 - share) * bought / 200)
   unfolding halfBought
-  half-is food own share bought = half-hundredth (mostOfFood / 2) (times (left share) bought)
+  half-is food local share bought = half-hundredth (mostOfFood / 2) (times (left share) bought)
 
-  pub home-is : (canned fresh own : ℕ) {share some more lead : ℕ} → Is (shareOf f own) mostShare share → Is (gramsAt f age canned) mostGrams some
-      → Is (gramsAt f age fresh) mostGrams more → Is (ownLeadOf f own) mostLead lead
-      → Is (homeGrown f age canned fresh own) (2 * mostOfFood) (share * (some + more) * lead / 100)
+  pub home-is : (canned fresh local : ℕ) {share some more lead : ℕ} → Is (shareOf f local) mostShare share → Is (gramsAt f age canned) mostGrams some
+      → Is (gramsAt f age fresh) mostGrams more → Is (localLeadOf f local) mostLead lead
+      → Is (homeGrown f age canned fresh local) (2 * mostOfFood) (share * (some + more) * lead / 100)
   unfolding homeGrown
-  home-is canned fresh own share some more lead = hundredth (2 * mostOfFood) (times (times share (plus some more)) lead)
+  home-is canned fresh local share some more lead = hundredth (2 * mostOfFood) (times (times share (plus some more)) lead)
 
-  pub caught-is : (own : ℕ) {share grams lead : ℕ} → Is (shareOf f own) mostShare share → Is (gramsAt f age meat) mostGrams grams → Is (ownLeadOf f own) mostLead lead
-      → Is (caught f age own) mostOfFood (share * grams * lead / 100)
+  pub caught-is : (local : ℕ) {share grams lead : ℕ} → Is (shareOf f local) mostShare share → Is (gramsAt f age meat) mostGrams grams → Is (localLeadOf f local) mostLead lead
+      → Is (caught f age local) mostOfFood (share * grams * lead / 100)
   unfolding caught
-  caught-is own share grams lead = hundredth mostOfFood (times (times share grams) lead)
+  caught-is local share grams lead = hundredth mostOfFood (times (times share grams) lead)
 
   -- the foods that count whole, as a loop adds them up
   unfoldable pub wholeAt : ℕ → ℕ

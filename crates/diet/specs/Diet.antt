@@ -7,7 +7,7 @@ use Rattle.numbers.specs.Choice.{tab}
 use Rattle.numbers.specs.Lists.{totalOf}
 use Rattle.site.specs.Fields.{ages}
 use Rattle.foods.specs.Names.{beverage, bread, canFruit, canVeg, candy, dairy, freshFruit, freshVeg, formula, infant, juices, meat, nuts, pasta, sauce, vegetable, fruit, fish, game}
-use Rattle.foods.specs.Figures.{gramsAt, leadOf, shareOf, ownLeadOf, mostGrams, mostLead}
+use Rattle.foods.specs.Figures.{gramsAt, leadOf, shareOf, localLeadOf, mostGrams, mostLead}
 
 -- E-4d to E-4r: the lead of a food's grams
 unfoldable pub foodLead : List ℕ → ℕ → ℕ → ℕ
@@ -19,15 +19,15 @@ inMeat f age = (100 - shareOf f fish - shareOf f game) * foodLead f age meat / 1
 
 -- E-5e to E-5h: of a canned or fresh food, half of what is not home-grown (E-5b, E-5c)
 unfoldable pub halfBought : List ℕ → ℕ → ℕ → ℕ → ℕ
-halfBought f age food own = (100 - shareOf f own) * foodLead f age food / 200
+halfBought f age food local = (100 - shareOf f local) * foodLead f age food / 200
 
 -- E-5i, E-5j: home-grown, its share of the canned and fresh grams together, by its own lead
 unfoldable pub homeGrown : List ℕ → ℕ → ℕ → ℕ → ℕ → ℕ
-homeGrown f age canned fresh own = shareOf f own * (gramsAt f age canned + gramsAt f age fresh) * ownLeadOf f own / 100
+homeGrown f age canned fresh local = shareOf f local * (gramsAt f age canned + gramsAt f age fresh) * localLeadOf f local / 100
 
 -- E-5k, E-5l: fish or game, its share of the meat's grams, by its own lead
 unfoldable pub caught : List ℕ → ℕ → ℕ → ℕ
-caught f age own = shareOf f own * gramsAt f age meat * ownLeadOf f own / 100
+caught f age local = shareOf f local * gramsAt f age meat * localLeadOf f local / 100
 
 -- E-5m to E-5v, in that order: the foods that count whole
 abbrev pub wholeFoods : List ℕ

@@ -4,8 +4,8 @@ use foods::places::FIGURES;
 ghost use Prim.Native.Nat.{_<_};
 ghost use Rattle.numbers.specs.Bounds.{Is};
 ghost use Rattle.site.specs.Fields.{ages};
-ghost use Rattle.foods.specs.Names.{foodCount, ownCount};
-ghost use Rattle.foods.specs.Figures.{gramsAt, leadOf, shareOf, ownLeadOf, mostGrams, mostLead, mostShare};
+ghost use Rattle.foods.specs.Names.{foodCount, localCount};
+ghost use Rattle.foods.specs.Figures.{gramsAt, leadOf, shareOf, localLeadOf, mostGrams, mostLead, mostShare};
 ghost use Rattle.foods.specs.Limits.{FoodsLimits};
 
 // The grams of a food a day at an age.
@@ -25,17 +25,17 @@ pub fn lead_of(figures: &[u32; FIGURES], food: usize) -> u64
     figures[places::LEADS_FROM + food] as u64
 }
 
-// The share of an own food, and its lead.
-pub fn share_of(figures: &[u32; FIGURES], own: usize) -> u64
-    requires { ⌜ FoodsLimits (now figures) × (own < ownCount) ⌝ }
-    ensures { λ r. ⌜ Is (shareOf (now (figures .entry)) own) mostShare r ⌝ }
+// The share of a local food, and its lead.
+pub fn share_of(figures: &[u32; FIGURES], local: usize) -> u64
+    requires { ⌜ FoodsLimits (now figures) × (local < localCount) ⌝ }
+    ensures { λ r. ⌜ Is (shareOf (now (figures .entry)) local) mostShare r ⌝ }
 {
-    figures[places::SHARES_FROM + own] as u64
+    figures[places::SHARES_FROM + local] as u64
 }
 
-pub fn own_lead_of(figures: &[u32; FIGURES], own: usize) -> u64
-    requires { ⌜ FoodsLimits (now figures) × (own < ownCount) ⌝ }
-    ensures { λ r. ⌜ Is (ownLeadOf (now (figures .entry)) own) mostLead r ⌝ }
+pub fn local_lead_of(figures: &[u32; FIGURES], local: usize) -> u64
+    requires { ⌜ FoodsLimits (now figures) × (local < localCount) ⌝ }
+    ensures { λ r. ⌜ Is (localLeadOf (now (figures .entry)) local) mostLead r ⌝ }
 {
-    figures[places::OWN_LEADS_FROM + own] as u64
+    figures[places::LOCAL_LEADS_FROM + local] as u64
 }

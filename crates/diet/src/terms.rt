@@ -7,7 +7,7 @@ ghost use Prim.Native.Nat.{_*_, _/_, _<_};
 ghost use lib.ListN.{getD};
 ghost use Rattle.numbers.specs.Bounds.{Is};
 ghost use Rattle.site.specs.Fields.{ages};
-ghost use Rattle.foods.specs.Names.{foodCount, ownCount};
+ghost use Rattle.foods.specs.Names.{foodCount, localCount};
 ghost use Rattle.foods.specs.Limits.{FoodsLimits};
 ghost use Rattle.diet.specs.Diet.{foodLead, inMeat, halfBought, homeGrown, caught, wholeFoods, wholeCount, inWholeFoods, mostOfFood};
 
@@ -55,37 +55,43 @@ pub fn in_meat(figures: &[u32; FIGURES], age: usize) -> u64
 }
 
 // A canned or fresh food: half of what is not home-grown.
-pub fn half_bought(figures: &[u32; FIGURES], age: usize, food: usize, own: usize) -> u64
-    requires { ⌜ FoodsLimits (now figures) × ((age < ages) × ((food < foodCount) × (own < ownCount))) ⌝ }
-    ensures { λ r. ⌜ Is (halfBought (now (figures .entry)) age food own) (mostOfFood / 2) r ⌝ }
+pub fn half_bought(figures: &[u32; FIGURES], age: usize, food: usize, local: usize) -> u64
+    requires { ⌜ FoodsLimits (now figures) × ((age < ages) × ((food < foodCount) × (local < localCount))) ⌝ }
+    ensures { λ r. ⌜ Is (halfBought (now (figures .entry)) age food local) (mostOfFood / 2) r ⌝ }
 {
-    let share = figure::share_of(figures, own);
+    let share = figure::share_of(figures, local);
     let bought = food_lead(figures, age, food);
     let left = HUNDREDTHS - share;
     left * bought / HALF_HUNDREDTHS
 }
 
 // A home-grown food: its share of the canned and fresh grams together, by its own lead.
-pub fn home_grown(figures: &[u32; FIGURES], age: usize, canned: usize, fresh: usize, own: usize) -> u64
-    requires { ⌜ FoodsLimits (now figures) × ((age < ages) × ((canned < foodCount) × ((fresh < foodCount) × (own < ownCount)))) ⌝ }
-    ensures { λ r. ⌜ Is (homeGrown (now (figures .entry)) age canned fresh own) (2 * mostOfFood) r ⌝ }
+pub fn home_grown(
+    figures: &[u32; FIGURES],
+    age: usize,
+    canned: usize,
+    fresh: usize,
+    local: usize,
+) -> u64
+    requires { ⌜ FoodsLimits (now figures) × ((age < ages) × ((canned < foodCount) × ((fresh < foodCount) × (local < localCount)))) ⌝ }
+    ensures { λ r. ⌜ Is (homeGrown (now (figures .entry)) age canned fresh local) (2 * mostOfFood) r ⌝ }
 {
-    let share = figure::share_of(figures, own);
+    let share = figure::share_of(figures, local);
     let canned_grams = figure::grams_at(figures, age, canned);
     let fresh_grams = figure::grams_at(figures, age, fresh);
-    let lead = figure::own_lead_of(figures, own);
+    let lead = figure::local_lead_of(figures, local);
     let grams = canned_grams + fresh_grams;
     share * grams * lead / HUNDREDTHS
 }
 
 // Fish or game: its share of the meat's grams, by its own lead.
-pub fn caught(figures: &[u32; FIGURES], age: usize, own: usize) -> u64
-    requires { ⌜ FoodsLimits (now figures) × ((age < ages) × (own < ownCount)) ⌝ }
-    ensures { λ r. ⌜ Is (caught (now (figures .entry)) age own) mostOfFood r ⌝ }
+pub fn caught(figures: &[u32; FIGURES], age: usize, local: usize) -> u64
+    requires { ⌜ FoodsLimits (now figures) × ((age < ages) × (local < localCount)) ⌝ }
+    ensures { λ r. ⌜ Is (caught (now (figures .entry)) age local) mostOfFood r ⌝ }
 {
-    let share = figure::share_of(figures, own);
+    let share = figure::share_of(figures, local);
     let grams = figure::grams_at(figures, age, places::MEAT);
-    let lead = figure::own_lead_of(figures, own);
+    let lead = figure::local_lead_of(figures, local);
     share * grams * lead / HUNDREDTHS
 }
 

@@ -10,8 +10,8 @@ use lib.Dec.{leb}
 use borrow.Author.Tests.{leb-true, le-leb, lt-leb}
 use Rattle.numbers.specs.Choice.{every}
 use Rattle.numbers.proofs.Every.{and-left, and-right, every-at}
-use Rattle.foods.specs.Names.{foodCount, amountCount, ownCount, vegetable, fruit, fish, game}
-use Rattle.foods.specs.Figures.{leadsFrom, ownLeadsFrom, shareOf, mostGrams, mostLead, mostShare, sharesFit, allWithin, amountsFit}
+use Rattle.foods.specs.Names.{foodCount, amountCount, localCount, vegetable, fruit, fish, game}
+use Rattle.foods.specs.Figures.{leadsFrom, localLeadsFrom, shareOf, mostGrams, mostLead, mostShare, sharesFit, allWithin, amountsFit}
 use Rattle.foods.specs.Limits.{FoodsLimits}
 
 -- the figure at a place is at most a limit
@@ -55,9 +55,9 @@ module _ (f : List ℕ) {grams-fit : Bool} (grams : grams-fit ≡ allWithin most
     unfolding amountsFit
     leads-over e = rw (sym grams ∙ within-grams, sym leads ∙ e)
 
-    pub own-leads-last : leads-fit ≡ true → {fit : Bool} → fit ≡ allWithin mostLead f ownLeadsFrom ownCount → fit ≡ amountsFit f
+    pub local-leads-last : leads-fit ≡ true → {fit : Bool} → fit ≡ allWithin mostLead f localLeadsFrom localCount → fit ≡ amountsFit f
     unfolding amountsFit
-    own-leads-last e own = rw (sym grams ∙ within-grams, sym leads ∙ e) own
+    local-leads-last e local = rw (sym grams ∙ within-grams, sym leads ∙ e) local
 
 -- what the tests say of each figure
 module _ (f : List ℕ) (fit : sharesFit f ≡ true) where
@@ -69,27 +69,27 @@ module _ (f : List ℕ) (fit : sharesFit f ≡ true) where
   unfolding sharesFit
   others = and-right (leb (shareOf f fish + shareOf f game) mostShare) (leb (shareOf f vegetable) mostShare && leb (shareOf f fruit) mostShare) fit
 
-  share-le : (own : ℕ) → own < ownCount → shareOf f own ≤ mostShare
+  share-le : (local : ℕ) → local < localCount → shareOf f local ≤ mostShare
   share-le zero h = leb-true _ _ (and-left (leb (shareOf f vegetable) mostShare) (leb (shareOf f fruit) mostShare) others)
   share-le (suc zero) h = leb-true _ _ (and-right (leb (shareOf f vegetable) mostShare) (leb (shareOf f fruit) mostShare) others)
   share-le (suc (suc zero)) h = omega (arith, caught-le)
   share-le (suc (suc (suc zero))) h = omega (arith, caught-le)
-  share-le (suc (suc (suc (suc own)))) h = absurd (omega arith)
+  share-le (suc (suc (suc (suc local)))) h = absurd (omega arith)
 
   module _ (amounts : amountsFit f ≡ true) where
     abbrev leads-fit : Bool
     leads-fit = allWithin mostLead f leadsFrom foodCount
 
-    abbrev own-leads-fit : Bool
-    own-leads-fit = allWithin mostLead f ownLeadsFrom ownCount
+    abbrev local-leads-fit : Bool
+    local-leads-fit = allWithin mostLead f localLeadsFrom localCount
 
     grams-tested : allWithin mostGrams f 0 amountCount ≡ true
     unfolding amountsFit
-    grams-tested = and-left (allWithin mostGrams f 0 amountCount) (leads-fit && own-leads-fit) amounts
+    grams-tested = and-left (allWithin mostGrams f 0 amountCount) (leads-fit && local-leads-fit) amounts
 
-    leads-tested : leads-fit && own-leads-fit ≡ true
+    leads-tested : leads-fit && local-leads-fit ≡ true
     unfolding amountsFit
-    leads-tested = and-right (allWithin mostGrams f 0 amountCount) (leads-fit && own-leads-fit) amounts
+    leads-tested = and-right (allWithin mostGrams f 0 amountCount) (leads-fit && local-leads-fit) amounts
 
     pub fit-limits : FoodsLimits f
     fit-limits =
@@ -97,10 +97,10 @@ module _ (f : List ℕ) (fit : sharesFit f ≡ true) where
           its-grams = λ age food a b. within-at mostGrams f 0 amountCount grams-tested (foodCount * age + food) (omega arith) (omega arith);
           its-leads =
               λ food h.
-              within-at mostLead f leadsFrom foodCount (and-left leads-fit own-leads-fit leads-tested) (leadsFrom + food) (omega arith) (omega arith);
+              within-at mostLead f leadsFrom foodCount (and-left leads-fit local-leads-fit leads-tested) (leadsFrom + food) (omega arith) (omega arith);
           each-share = share-le;
           fish-and-game = caught-le;
-          own-leads =
-              λ own h.
-              within-at mostLead f ownLeadsFrom ownCount (and-right leads-fit own-leads-fit leads-tested) (ownLeadsFrom + own) (omega arith) (omega arith);
+          local-leads =
+              λ local h.
+              within-at mostLead f localLeadsFrom localCount (and-right leads-fit local-leads-fit leads-tested) (localLeadsFrom + local) (omega arith) (omega arith);
         }

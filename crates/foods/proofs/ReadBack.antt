@@ -13,8 +13,8 @@ use Rattle.block.specs.Block.{Bytes, fieldsAt, checkAt, wordsFrom, fieldsFrom}
 use Rattle.block.specs.Writer.{layoutWords, layout, bodyWith, sealed, BodyPasses}
 use Rattle.block.proofs.Laid.{bytes-append, length-layoutWords, bytes-layoutWords, length-layout, bytes-layout, laid-passes, words-body, fields-body-behind}
 use Rattle.block.proofs.Sealed.{length-sealed, words-sealed, fields-sealed, sealed-passes, written-sealed}
-use Rattle.foods.specs.Names.{foodCount, amountCount, ownCount, wideCount, figureCount}
-use Rattle.foods.specs.Figures.{sharesFrom, ownLeadsFrom, sharesFit, amountsFit}
+use Rattle.foods.specs.Names.{foodCount, amountCount, localCount, wideCount, figureCount}
+use Rattle.foods.specs.Figures.{sharesFrom, localLeadsFrom, sharesFit, amountsFit}
 use Rattle.foods.specs.Limits.{FoodsLimits}
 use Rattle.foods.specs.Foods.{leadsAt, foodsForm, figuresOf, foodsRefusal, foodsBody}
 use Rattle.foods.specs.Laws.{BodyReadBack, FiguresReadBack}
@@ -88,14 +88,14 @@ module _ (f : List ℕ) (full : length f ≡ figureCount) where
         elim (decLt k foodCount) [
           | yes lead ↦ omega (arith, limits .its-leads k lead)
           | no others ↦
-              elim (decLt k (foodCount + ownCount)) [
+              elim (decLt k (foodCount + localCount)) [
                 | yes share ↦
                     let at : sharesFrom + (k - foodCount) ≡ amountCount + k = omega arith in
                     let within = limits .each-share (k - foodCount) (omega arith) in
                     omega (arith, rw at at within)
-                | no own ↦
-                    let at : ownLeadsFrom + (k - (foodCount + ownCount)) ≡ amountCount + k = omega arith in
-                    let within = limits .own-leads (k - (foodCount + ownCount)) (omega arith) in
+                | no local ↦
+                    let at : localLeadsFrom + (k - (foodCount + localCount)) ≡ amountCount + k = omega arith in
+                    let within = limits .local-leads (k - (foodCount + localCount)) (omega arith) in
                     omega (arith, rw at at within)
               ]
         ]

@@ -6,17 +6,17 @@ use mathlib.Core.List.{List}
 use lib.ListN.{getD}
 use lib.Dec.{leb}
 use Rattle.numbers.specs.Choice.{every}
-use Rattle.foods.specs.Names.{foodCount, amountCount, vegetable, fruit, fish, game, ownCount}
+use Rattle.foods.specs.Names.{foodCount, amountCount, vegetable, fruit, fish, game, localCount}
 
--- behind the grams stand the leads, the shares of own foods and their leads
+-- behind the grams stand the leads, the shares of local foods and their leads
 abbrev pub leadsFrom : ℕ  -- 105
 leadsFrom = amountCount
 
 abbrev pub sharesFrom : ℕ  -- 120
 sharesFrom = leadsFrom + foodCount
 
-abbrev pub ownLeadsFrom : ℕ  -- 124
-ownLeadsFrom = sharesFrom + ownCount
+abbrev pub localLeadsFrom : ℕ  -- 124
+localLeadsFrom = sharesFrom + localCount
 
 -- the grams of a food a day at an age from 0 to 6: fifteen for each age
 abbrev pub gramsAt : List ℕ → ℕ → ℕ → ℕ
@@ -26,12 +26,12 @@ gramsAt f age food = getD f (foodCount * age + food) 0
 abbrev pub leadOf : List ℕ → ℕ → ℕ
 leadOf f food = getD f (leadsFrom + food) 0
 
--- the share that an own food takes of others, in hundredths, and its lead, pg/g
+-- the share that a local food takes of others, in hundredths, and its lead, pg/g
 abbrev pub shareOf : List ℕ → ℕ → ℕ
-shareOf f own = getD f (sharesFrom + own) 0
+shareOf f local = getD f (sharesFrom + local) 0
 
-abbrev pub ownLeadOf : List ℕ → ℕ → ℕ
-ownLeadOf f own = getD f (ownLeadsFrom + own) 0
+abbrev pub localLeadOf : List ℕ → ℕ → ℕ
+localLeadOf f local = getD f (localLeadsFrom + local) 0
 
 -- the limits: of an amount, g/day, of a lead, pg/g, and of a share, in hundredths
 abbrev pub mostGrams : ℕ
@@ -53,4 +53,4 @@ allWithin limit f from n = every (λ (k : ℕ). leb (getD f k 0) limit) from n
 
 -- each amount and each lead is within its limit, else 11
 unfoldable pub amountsFit : List ℕ → Bool
-amountsFit f = allWithin mostGrams f 0 amountCount && (allWithin mostLead f leadsFrom foodCount && allWithin mostLead f ownLeadsFrom ownCount)
+amountsFit f = allWithin mostGrams f 0 amountCount && (allWithin mostLead f leadsFrom foodCount && allWithin mostLead f localLeadsFrom localCount)

@@ -3,13 +3,13 @@
 use Prim.Native.Nat.{ℕ, _+_, _≤_, _<_}
 use mathlib.Core.List.{List}
 use Rattle.site.specs.Fields.{ages}
-use Rattle.foods.specs.Names.{foodCount, ownCount, fish, game}
-use Rattle.foods.specs.Figures.{gramsAt, leadOf, shareOf, ownLeadOf, mostGrams, mostLead, mostShare}
+use Rattle.foods.specs.Names.{foodCount, localCount, fish, game}
+use Rattle.foods.specs.Figures.{gramsAt, leadOf, shareOf, localLeadOf, mostGrams, mostLead, mostShare}
 
 -- each figure within its limit
 pub record FoodsLimits (f : List ℕ) : Type 0 where
   pub its-grams : (age food : ℕ) → age < ages → food < foodCount → gramsAt f age food ≤ mostGrams
   pub its-leads : (food : ℕ) → food < foodCount → leadOf f food ≤ mostLead
-  pub each-share : (own : ℕ) → own < ownCount → shareOf f own ≤ mostShare
+  pub each-share : (local : ℕ) → local < localCount → shareOf f local ≤ mostShare
   pub fish-and-game : shareOf f fish + shareOf f game ≤ mostShare
-  pub own-leads : (own : ℕ) → own < ownCount → ownLeadOf f own ≤ mostLead
+  pub local-leads : (local : ℕ) → local < localCount → localLeadOf f local ≤ mostLead

@@ -1,4 +1,4 @@
--- The fifteen foods in the order of E-4d to E-4r, and the four own foods, which replace a share of others (document 02, [1]).
+-- The fifteen foods in the order of E-4d to E-4r, and the four local foods, which replace a share of others (document 02, [1]).
 -- Assumes nothing.
 use Prim.Native.Nat.{ℕ, _+_, _*_}
 use Rattle.site.specs.Fields.{ages}
@@ -55,7 +55,7 @@ foodCount = 15
 abbrev pub amountCount : ℕ
 amountCount = ages * foodCount
 
--- the own foods, home-grown vegetable and fruit, fish and game: the order of their shares, and of their leads
+-- the local foods, home-grown vegetable and fruit, fish and game: the order of their shares, and of their leads
 abbrev pub vegetable : ℕ
 vegetable = 0
 
@@ -68,12 +68,12 @@ fish = 2
 abbrev pub game : ℕ
 game = 3
 
-abbrev pub ownCount : ℕ
-ownCount = 4
+abbrev pub localCount : ℕ
+localCount = 4
 
--- the figures of 32 bits: leads, shares, own leads; and all figures, 128
+-- the figures of 32 bits: leads, shares, local leads; and all figures, 128
 abbrev pub wideCount : ℕ
-wideCount = foodCount + ownCount + ownCount
+wideCount = foodCount + localCount + localCount
 
 abbrev pub figureCount : ℕ
 figureCount = amountCount + wideCount

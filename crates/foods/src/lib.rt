@@ -1,4 +1,4 @@
-// The foods block: the grams of fifteen foods at each age, their lead, and what own foods replace, read or refused.
+// The foods block: the grams of fifteen foods at each age, their lead, and what local foods replace, read or refused.
 use block::BLOCK_BYTES;
 use block::FIELDS_AT;
 use block::Form;

@@ -63,7 +63,12 @@ pub fn amounts_fit(figures: &[u32]) -> bool
 {
     if all_within(GRAMS_MOST, figures, 0, places::AMOUNTS) {
         if all_within(LEAD_MOST, figures, places::LEADS_FROM, places::SHARES_FROM) {
-            all_within(LEAD_MOST, figures, places::OWN_LEADS_FROM, places::FIGURES)
+            all_within(
+                LEAD_MOST,
+                figures,
+                places::LOCAL_LEADS_FROM,
+                places::FIGURES,
+            )
         } else {
             false
         }

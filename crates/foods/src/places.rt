@@ -1,4 +1,4 @@
-// The places of the foods, in the order of E-4d to E-4r, and of the own foods, which replace a share of others.
+// The places of the foods, in the order of E-4d to E-4r, and of the local foods, which replace a share of others.
 use site::places::AGES;
 
 pub const BEVERAGE: usize = 0;
@@ -36,7 +36,7 @@ pub const FOODS: usize = 15;
 
 pub const AMOUNTS: usize = AGES * FOODS;
 
-// The own foods: home-grown vegetable and fruit, fish and game. Their shares and their leads stand in this order.
+// The local foods: home-grown vegetable and fruit, fish and game. Their shares and their leads stand in this order.
 pub const VEGETABLE: usize = 0;
 
 pub const FRUIT: usize = 1;
@@ -45,15 +45,15 @@ pub const FISH: usize = 2;
 
 pub const GAME: usize = 3;
 
-pub const OWN_FOODS: usize = 4;
+pub const LOCAL_FOODS: usize = 4;
 
-// The figures in a row: behind the grams the leads, the shares of own foods and their leads. All but the grams have 32 bits.
+// The figures in a row: behind the grams the leads, the shares of local foods and their leads. All but the grams have 32 bits.
 pub const LEADS_FROM: usize = AMOUNTS; // 105
 
 pub const SHARES_FROM: usize = LEADS_FROM + FOODS; // 120
 
-pub const OWN_LEADS_FROM: usize = SHARES_FROM + OWN_FOODS; // 124
+pub const LOCAL_LEADS_FROM: usize = SHARES_FROM + LOCAL_FOODS; // 124
 
-pub const WIDE_FIGURES: usize = FOODS + OWN_FOODS + OWN_FOODS; // 23
+pub const WIDE_FIGURES: usize = FOODS + LOCAL_FOODS + LOCAL_FOODS; // 23
 
 pub const FIGURES: usize = AMOUNTS + WIDE_FIGURES; // 128

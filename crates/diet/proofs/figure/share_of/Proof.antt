@@ -10,7 +10,7 @@ use Rattle.foods.specs.Figures.{shareOf, mostShare}
 use Rattle.diet.proofs.figure.share_of.Statement.{statement}
 use Rattle.diet.proofs.figure.share_of.Tie as tie
 
-within : (c : tie.Start) → shareOf (now (c .args .figures)) (c .args .own) ≤ mostShare
+within : (c : tie.Start) → shareOf (now (c .args .figures)) (c .args .local) ≤ mostShare
 within c = c .pre .0 .each-share _ (c .pre .1)
 
 add-result : tie.Need-add-result

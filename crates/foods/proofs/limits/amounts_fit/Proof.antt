@@ -1,6 +1,6 @@
 -- `foods::limits::amounts_fit` meets its contract: each way out is one case of `amountsFit`.
 -- Assumes nothing.
-use Rattle.foods.proofs.FigureTests.{grams-over, leads-over, own-leads-last}
+use Rattle.foods.proofs.FigureTests.{grams-over, leads-over, local-leads-last}
 use borrow.Author.Needs.{needs}
 use Rattle.foods.proofs.limits.amounts_fit.Statement.{statement}
 use Rattle.foods.proofs.limits.amounts_fit.Tie as tie
@@ -17,7 +17,7 @@ all-within-requires-3 c κs = search needs
 returns : tie.Need-returns
 returns c =
     let grams = c .before .before .before .before in
-    own-leads-last _ (grams .all-within .ensures) (c .before .before .before .if1 .taken) (c .before .before .all-within2 .ensures) (c .before .if2 .taken)
+    local-leads-last _ (grams .all-within .ensures) (c .before .before .before .if1 .taken) (c .before .before .all-within2 .ensures) (c .before .if2 .taken)
     (c .all-within3 .ensures)
 
 returns-2 : tie.Need-returns-2
