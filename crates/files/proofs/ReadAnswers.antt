@@ -2,9 +2,10 @@
 -- Assumes nothing.
 use mathlib.Core.Path.{_≡_, refl, sym, ap, _∙_}
 use mathlib.Core.Bool.{Bool, true, false}
-use mathlib.Core.List.{List}
+use mathlib.Core.List.{List, [], _∷_}
 use Prim.Native.Nat.{ℕ}
-use Rattle.numbers.proofs.Refusals.{orElse-first, orElse-last}
+use Rattle.numbers.specs.Choice.{firstOf}
+use Rattle.numbers.proofs.Refusals.{firstOf-none}
 use Rattle.site.specs.declared.Scenario.{Scenario}
 use Rattle.site.specs.declared.SiteRead.{SiteRead}
 use Rattle.site.specs.Scenario.{withDiets}
@@ -14,9 +15,8 @@ use Rattle.foods.specs.Foods.{foodsRefusal, foodsFigures}
 use Rattle.diet.specs.Diet.{dietsOf}
 use Rattle.book.specs.Book.{bookRefusal, bookTable}
 use Rattle.files.specs.declared.DietsRead.{DietsRead}
-use Rattle.files.specs.declared.FilesRead.{FilesRead}
 use Rattle.files.specs.Files.{foodsIf, Files, lengthRefusal, foodsRefusalIn, beforeBookRefusal, filesRefusal, withFoods}
-use Rattle.files.specs.Internal.{DietsTaken, BeforeBookRead, FilesAreRead}
+use Rattle.files.specs.Internal.{DietsTaken, FilesAreRead}
 
 -- the foods block, if there is one
 module _ (foods own : List ℕ) where
@@ -31,51 +31,27 @@ module _ (foods own : List ℕ) where
         → DietsTaken (foodsIf has foods) own (record { refusal = 0; diets = diets })
     foods-taken passed eg ed = rw e (record { refusal = sym passed ∙ er; diets = λ z. ed ∙ ap dietsOf eg })
 
-module _ (f : Files) where
-  -- before the book
-  module _ {lengths : ℕ} (el : lengths ≡ lengthRefusal f) {x : SiteRead} (ex : x ≡ readSite (f .site)) where
-    pub refused-by-length : (lengths ≡ 0 → ⊥) → BeforeBookRead f (record { refusal = lengths; scenario = x .scenario })
-    unfolding beforeBookRefusal
-    refused-by-length h = record { refusal = sym (rw (← el) (orElse-first lengths _ h)); scenario = λ z. absurd (h z) }
+-- and all of a call's files, by what is read on the way
+module _ (f : Files) {x : SiteRead} (ex : x ≡ readSite (f .site)) {y : DietsRead} (taken : DietsTaken (f .foods) (x .scenario .diets) y)
+    {lengths : ℕ} (el : lengths ≡ lengthRefusal f) {before : ℕ} (eb : before ≡ firstOf (lengths ∷ x .refusal ∷ y .refusal ∷ []))
+    {r : ℕ} (er : r ≡ firstOf (before ∷ bookRefusal (f .book) ∷ [])) where
+  before-is : before ≡ beforeBookRefusal f
+  unfolding beforeBookRefusal
+  before-is =
+      let of-site : x .refusal ≡ siteRefusal (f .site) = ap (λ (s : SiteRead). s .refusal) ex ∙ read-refusal (f .site) in
+      eb ∙ rw (el, of-site, taken .refusal)
 
-    its-refusal : x .refusal ≡ siteRefusal (f .site)
-    its-refusal = ap (λ (y : SiteRead). y .refusal) ex ∙ read-refusal (f .site)
-
-    module _ (long : lengths ≡ 0) where
-      pub refused-by-site : (x .refusal ≡ 0 → ⊥) → BeforeBookRead f (record { refusal = x .refusal; scenario = x .scenario })
-      unfolding beforeBookRefusal
-      refused-by-site h =
-          record { refusal = sym (rw (sym el ∙ long, ← its-refusal) (orElse-first (x .refusal) _ h)); scenario = λ z. absurd (h z) }
-
-      pub foods-decide : x .refusal ≡ 0 → {y : DietsRead} → DietsTaken (f .foods) (x .scenario .diets) y
-          → BeforeBookRead f (record { refusal = y .refusal; scenario = withDiets (y .diets) (x .scenario) })
-      unfolding beforeBookRefusal
-      foods-decide passed taken =
-          record {
-            refusal = taken .refusal ∙ sym (rw (sym el ∙ long, sym its-refusal ∙ passed) (orElse-last (foodsRefusalIn (f .foods))));
-            scenario =
-                λ z.
-                ap (λ (diets : List ℕ). withDiets diets (x .scenario)) (taken .diets z)
-                ∙ ap (λ (y : SiteRead). withFoods (f .foods) (y .scenario)) ex;
-          }
-
-  -- and the book
-  module _ (table : List ℕ) {before : FilesRead} (read : BeforeBookRead f before) where
-    pub refused-before-book : (before .refusal ≡ 0 → ⊥) → FilesAreRead f table before
-    unfolding filesRefusal
-    refused-before-book h =
-        record {
-          refusal = sym (rw (← read .refusal) (orElse-first (before .refusal) _ h));
-          scenario = λ z. absurd (h z);
-          table-is = λ z. absurd (h z);
-        }
-
-    pub refused-or-read : before .refusal ≡ 0 → {book : ℕ} → book ≡ bookRefusal (f .book) → table ≡ bookTable (f .book)
-        → FilesAreRead f table (record { refusal = book; scenario = before .scenario })
-    unfolding filesRefusal
-    refused-or-read z {book} eb et =
-        record {
-          refusal = sym (rw (sym (read .refusal) ∙ z, ← eb) (orElse-last book));
-          scenario = λ e. read .scenario z;
-          table-is = λ e. et;
-        }
+  pub files-read : {table : List ℕ} → (r ≡ 0 → table ≡ bookTable (f .book))
+      → FilesAreRead f table (record { refusal = r; scenario = withDiets (y .diets) (x .scenario) })
+  unfolding filesRefusal
+  files-read et =
+      record {
+        refusal = er ∙ ap (λ (n : ℕ). firstOf (n ∷ bookRefusal (f .book) ∷ [])) before-is;
+        scenario =
+            λ z.
+            let none-before : before ≡ 0 = firstOf-none (before ∷ bookRefusal (f .book) ∷ []) (sym er ∙ z) 0 in
+            let accepted : y .refusal ≡ 0 = firstOf-none (lengths ∷ x .refusal ∷ y .refusal ∷ []) (sym eb ∙ none-before) 2 in
+            ap (λ (diets : List ℕ). withDiets diets (x .scenario)) (taken .diets accepted)
+            ∙ ap (λ (s : SiteRead). withFoods (f .foods) (s .scenario)) ex;
+        table-is = et;
+      }

@@ -7,8 +7,11 @@ use site::SITE_BYTES;
 use site::Scenario;
 use site::places::AGES;
 ghost use mathlib.Core.Path.{_≡_};
+ghost use mathlib.Core.List.{[], _∷_};
+ghost use Rattle.numbers.specs.Choice.{firstOf};
+ghost use Rattle.book.specs.Book.{bookRefusal, bookTable};
 ghost use Rattle.files.specs.Files.{foodsIf, filesOf, filesIf, lengthRefusal};
-ghost use Rattle.files.specs.Internal.{DietsTaken, BeforeBookRead, FilesAreRead};
+ghost use Rattle.files.specs.Internal.{DietsTaken, FilesAreRead};
 
 // What reading a call's files answers: a refusal, or 0 and the scenario.
 pub struct FilesRead {
@@ -60,39 +63,33 @@ fn read_diets(own: [u64; AGES], has_foods: bool, foods: &[u8]) -> DietsRead
     }
 }
 
-// What comes before the book: the lengths of site file and book, the site file, and the foods block. The site file is read before the
-// lengths are tested, since a refused answer holds a scenario too.
-fn read_before_book(site: &[u8], has_foods: bool, foods: &[u8], book: &[u8]) -> FilesRead
-    ensures { λ r. ⌜ BeforeBookRead (filesIf «has_foods» (now (site .entry)) (now (foods .entry)) (now (book .entry))) r ⌝ }
+// Why files are refused before the book, or 0: lengths, then the site file, then the foods block.
+fn before_book(lengths: u32, of_site: u32, of_foods: u32) -> u32
+    ensures { λ r. ⌜ r ≡ firstOf (lengths ∷ «of_site» ∷ «of_foods» ∷ []) ⌝ }
 {
-    let read = site::read_site(site);
-    let mut scenario = read.scenario;
-    let lengths = length_refusal(site, book);
     if lengths != 0 {
-        return FilesRead {
-            refusal: lengths,
-            scenario,
-        };
+        return lengths;
     }
-    let of_site = read.refusal;
     if of_site != 0 {
-        return FilesRead {
-            refusal: of_site,
-            scenario,
-        };
+        return of_site;
     }
-    let own = scenario.diets;
-    let eaten = read_diets(own, has_foods, foods);
-    let of_foods = eaten.refusal;
-    let diets = eaten.diets;
-    scenario.diets = diets;
-    FilesRead {
-        refusal: of_foods,
-        scenario,
-    }
+    of_foods
 }
 
-// Reads the site file, with a foods block or none, into a scenario and the book into the table, or answers why they are refused.
+// Reads the book into the table if nothing before it is refused; answers the first refusal, or 0.
+fn then_book(before: u32, book: &[u8], table: &mut [u32; TABLE_NUMBERS]) -> u32
+    ensures { λ r. ⌜ r ≡ firstOf (before ∷ bookRefusal (now (book .entry)) ∷ []) ⌝ }
+    ensures { λ r. ⌜ (r ≡ 0 → now (table .exit) ≡ bookTable (now (book .entry))) ⌝ }
+{
+    if before != 0 {
+        return before;
+    }
+    let of_book = book::read_book(book, table);
+    of_book
+}
+
+// Reads the site file, with a foods block or none, into a scenario and the book into the table, or answers why they are refused. All but
+// the book is read before a refusal is looked for, since a refused answer holds a scenario too.
 pub fn read_files(
     site: &[u8],
     has_foods: bool,
@@ -102,15 +99,16 @@ pub fn read_files(
 ) -> FilesRead
     ensures { λ r. ⌜ FilesAreRead (filesIf «has_foods» (now (site .entry)) (now (foods .entry)) (now (book .entry))) (now (table .exit)) r ⌝ }
 {
-    let before = read_before_book(site, has_foods, foods, book);
-    let of_before = before.refusal;
-    if of_before != 0 {
-        return before;
-    }
-    let scenario = before.scenario;
-    let of_book = book::read_book(book, table);
-    FilesRead {
-        refusal: of_book,
-        scenario,
-    }
+    let read = site::read_site(site);
+    let mut scenario = read.scenario;
+    let of_site = read.refusal;
+    let own = scenario.diets;
+    let eaten = read_diets(own, has_foods, foods);
+    let diets = eaten.diets;
+    let of_foods = eaten.refusal;
+    scenario.diets = diets;
+    let lengths = length_refusal(site, book);
+    let before = before_book(lengths, of_site, of_foods);
+    let refusal = then_book(before, book, table);
+    FilesRead { refusal, scenario }
 }
