@@ -7,7 +7,7 @@ use row::BLOCK_ROWS;
 use row::places::ROW_NUMBERS;
 ghost use mathlib.Core.Path.{_≡_};
 ghost use Prim.Native.Nat.{_<_};
-ghost use lib.ListN.{length, replicate};
+ghost use lib.ListN.{length};
 ghost use Rattle.book.specs.Book.{bookBlocks, bookBytes, tableNumbers, bookForm, bookRefusal, bookTable};
 ghost use Rattle.book.specs.Internal.{BlockDecoded, BookDecoded};
 

@@ -1,4 +1,4 @@
--- Without a foods block nothing has changed; with an accepted one the diet is E-5's, nothing else is another, and T keeps its bound.
+-- Without a foods block nothing has changed; with an accepted one only the diet differs, and it is E-5's; T keeps its bound.
 -- Assumes nothing.
 use Prim.Native.Nat.{ℕ}
 use mathlib.Core.Path.{_≡_, refl, sym, ap, _∙_}
@@ -21,8 +21,10 @@ use Rattle.exposure.proofs.ExposureWithin.{diet-accepted}
 use Rattle.intake.proofs.Refusal9.{four-alone}
 use Rattle.uptake.specs.Age.{ageOf}
 use Rattle.uptake.proofs.UptakeBounds.{age-law, day-law}
+use Rattle.child.specs.Birth.{newborn, newbornRefusal}
 use Rattle.child.specs.Month.{exposureIn, monthUptake}
 use Rattle.files.specs.Files.{filesOf, lengthRefusal, beforeBookRefusal, filesRefusal, scenarioIn}
+use Rattle.engine.specs.Birth.{birthRefusal, birthOf}
 use Rattle.engine.proofs.FilesDecoded.{files-decoded}
 use Rattle.conservation.specs.Laws.{FoodsLaw, NoFoodsLaw, UptakeLaw}
 
@@ -32,6 +34,7 @@ without-foods site book =
     record {
       refusal = by-length (lengthRefusal (filesOf site book)) (siteRefusal site);
       scenario = refl;
+      table = refl;
       diet = λ passed age h. rw (accepted-scenario site passed) (getD-tab ages (byAge (siteFields site) dietGroup) age (omega arith));
       nine = λ passed age h. four-alone _ (diet-accepted site passed age h);
     }
@@ -40,12 +43,15 @@ without-foods site book =
     by-length lengths its = ap (λ (n : ℕ). orElse (orElse lengths n) (orElse (bookRefusal book) 0)) (orElse-last its) ∙ sym (orElse-assoc lengths its (orElse (bookRefusal book) 0))
 
 pub with-foods : FoodsLaw
-unfolding filesRefusal beforeBookRefusal exposureAt
+unfolding filesRefusal beforeBookRefusal exposureAt newborn newbornRefusal birthRefusal birthOf
 with-foods site foods book passed =
     record {
+      lengths = refl;
       refusal = rw passed;
       scenario = ap (λ (f : List ℕ). withDiets (dietsOf f) (readSite site .scenario)) (accepted-figures foods passed);
       diet = λ age h. ap (λ (f : List ℕ). at (dietsOf f) age) (accepted-figures foods passed) ∙ diet-of-age (figuresOf foods) age (omega arith);
+      table = refl;
+      birth = rw passed;
     }
 
 pub uptake-law : UptakeLaw

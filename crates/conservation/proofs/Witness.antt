@@ -14,7 +14,7 @@ use Rattle.numbers.specs.Sums.{sumTo}
 use Rattle.numbers.proofs.Every.{every-at, length-tab, getD-tab, tab-same}
 use Rattle.numbers.proofs.Lists.{getD-below}
 use Rattle.block.specs.Block.{byteAt, blockBytes, checkAt, blockAt}
-use Rattle.block.specs.Writer.{sealed, written, bodyOf}
+use Rattle.block.specs.Writer.{written, bodyOf}
 use Rattle.block.proofs.Laid.{body-passes}
 use Rattle.block.proofs.Sealed.{length-sealed, written-sealed}
 use Rattle.site.specs.declared.Scenario.{Scenario}

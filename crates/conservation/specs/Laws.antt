@@ -11,7 +11,7 @@ use Rattle.site.specs.Scenario.{withDiets}
 use Rattle.site.specs.Site.{siteFields, siteRefusal, readSite}
 use Rattle.foods.specs.Foods.{figuresOf, foodsRefusal}
 use Rattle.diet.specs.Diet.{dietAt, dietsOf}
-use Rattle.book.specs.Book.{bookRefusal}
+use Rattle.book.specs.Book.{bookRefusal, bookTable}
 use Rattle.exposure.specs.declared.Exposure.{Exposure}
 use Rattle.exposure.specs.Exposure.{exposureAt}
 use Rattle.intake.specs.Intake.{intakeRefusal}
@@ -62,14 +62,18 @@ siteExposure site age = exposureAt (readSite site .scenario) age
 pub record WithoutFoods (site book : List ℕ) : Type 0 where
   pub refusal : filesRefusal (filesOf site book) ≡ firstOf (lengthRefusal (filesOf site book) ∷ siteRefusal site ∷ bookRefusal book ∷ [])
   pub scenario : scenarioIn (filesOf site book) ≡ readSite site .scenario
+  pub table : tableIn (filesOf site book) ≡ bookTable book
   pub diet : siteRefusal site ≡ 0 → (age : ℕ) → age ≤ lastAge → siteExposure site age .diet ≡ byAge (siteFields site) dietGroup age
   pub nine : siteRefusal site ≡ 0 → (age : ℕ) → age ≤ lastAge → RefusalLaw (siteExposure site age) (FourPassed (siteExposure site age))
 
--- with an accepted one all is as without it but the diets, and they are E-5's
+-- with an accepted one only the diets differ, and they are E-5's; birth does not
 pub record WithFoods (site foods book : List ℕ) : Type 0 where
+  pub lengths : lengthRefusal (filesWith site foods book) ≡ lengthRefusal (filesOf site book)
   pub refusal : filesRefusal (filesWith site foods book) ≡ filesRefusal (filesOf site book)
   pub scenario : scenarioIn (filesWith site foods book) ≡ withDiets (dietsOf (figuresOf foods)) (scenarioIn (filesOf site book))
   pub diet : (age : ℕ) → age ≤ lastAge → exposureAt (scenarioIn (filesWith site foods book)) age .diet ≡ dietAt (figuresOf foods) age
+  pub table : tableIn (filesWith site foods book) ≡ tableIn (filesOf site book)
+  pub birth : birthOf (filesWith site foods book) ≡ birthOf (filesOf site book)
 
 abbrev pub FoodsLaw : Type 0
 FoodsLaw = (site foods book : List ℕ) → foodsRefusal foods ≡ 0 → WithFoods site foods book

@@ -25,10 +25,10 @@ use Rattle.printout.specs.Laws as printout
 use Rattle.printout.specs.Bench as lines
 
 pub record Delivery : Type 0 where
-  -- DEMAND 1. A site file, rate book or child's state of any length and content is either run or refused with the exact number
-  -- what passes is within its limits: the exposures, the diet, the mother's blood lead, foods, each row
+  -- DEMAND 1. A site file, foods block, rate book or child's state of any length and content is either run or refused with the exact number
+  -- what passes is within its limits: the exposures, the site file's own diet, the mother's blood lead, a foods block's figures and diet, each row
   pub exposure-within : exposure.ExposureWithin
-  pub diet-within : exposure.DietWithin
+  pub diet-within : exposure.OwnDietWithin
   pub mother-within : site.MotherWithin
   pub foods-within : foods.FoodsWithin
   pub foods-diet-within : diet.DietWithin
@@ -37,7 +37,7 @@ pub record Delivery : Type 0 where
   -- 9 if and only if an air, water, soil or dust intake or a diet is over 10^9; with a diet within it, the four alone
   pub nine : intake.NineLaw
   pub nine-of-four : intake.FourAlone
-  -- without a foods block every answer is as it was; with one only the diet is another, E-5's
+  -- without a foods block every answer is as it was; with an accepted one only the diet differs, and it is E-5's
   pub without-foods : calls.NoFoodsLaw
   pub with-foods : calls.FoodsLaw
   -- after an accepted birth never 20; a run is birth and month calls, and is never refused with 20 or 21

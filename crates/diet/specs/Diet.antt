@@ -57,9 +57,9 @@ dietAt f age =
 unfoldable pub dietsOf : List ℕ → List ℕ
 dietsOf f = tab ages (dietAt f)
 
--- the most lead of a food, pg/day, and the most diet: figures within their limits keep below them
+-- the most lead of a food's grams, pg/day, and the most diet, within the limits of 10 and 11
 abbrev pub mostOfFood : ℕ
 mostOfFood = mostGrams * mostLead
 
 abbrev pub mostDiet : ℕ
-mostDiet = 190_000_000_000
+mostDiet = 150_000_000_000

@@ -17,7 +17,7 @@ use Rattle.site.specs.Site.{siteFields, readSite}
 use Rattle.site.proofs.FieldsWithin.{field-le, range-le, saturation-ge, shares-le, fields-passed, accepted-scenario, accepted-fit}
 use Rattle.exposure.specs.Exposure.{percentagesFrom, exposureAt}
 use Rattle.exposure.specs.Limits.{ExposureLimits}
-use Rattle.exposure.specs.Laws.{ExposureWithin, DietWithin}
+use Rattle.exposure.specs.Laws.{ExposureWithin, OwnDietWithin}
 
 module _ (fields : List ℕ) (fit : fieldsFit fields ≡ true) where
   -- a field that each age has, by the limit of its group
@@ -83,6 +83,6 @@ unfolding limits every
 diet-le fields fit age h =
     rw (getD-tab ages (byAge fields dietGroup) age (omega arith)) (group-le fields fit dietGroup 1_000_000_000 refl (omega arith) age h)
 
-pub diet-accepted : DietWithin
+pub diet-accepted : OwnDietWithin
 unfolding exposureAt scenarioOf
 diet-accepted site passed age h = rw (accepted-scenario site passed) (diet-le (siteFields site) (fields-passed site passed) age h)

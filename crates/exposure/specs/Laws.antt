@@ -15,5 +15,5 @@ ExposureWithin =
     (site diets : List ℕ) → siteRefusal site ≡ 0 → (age : ℕ) → age ≤ lastAge → ExposureLimits (exposureAt (withDiets diets (readSite site .scenario)) age)
 
 -- the file's own diet is at most 10^9
-abbrev pub DietWithin : Type 0
-DietWithin = (site : List ℕ) → siteRefusal site ≡ 0 → (age : ℕ) → age ≤ lastAge → exposureAt (readSite site .scenario) age .diet ≤ 1_000_000_000
+abbrev pub OwnDietWithin : Type 0
+OwnDietWithin = (site : List ℕ) → siteRefusal site ≡ 0 → (age : ℕ) → age ≤ lastAge → exposureAt (readSite site .scenario) age .diet ≤ 1_000_000_000

@@ -27,9 +27,6 @@ module _ (f : Files) (passed : filesRefusal f ≡ 0) where
   pub site-passed : siteRefusal (f .site) ≡ 0
   site-passed = before-book-at 1
 
-  pub foods-passed : foodsRefusalIn (f .foods) ≡ 0
-  foods-passed = before-book-at 2
-
 foods-in-of-input : (file : FoodsFile) → OfInput (foodsRefusalIn file)
 foods-in-of-input none = omega arith
 foods-in-of-input (handed foods) = foods-of-input foods

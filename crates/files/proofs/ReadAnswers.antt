@@ -6,7 +6,6 @@ use mathlib.Core.List.{List, [], _∷_}
 use Prim.Native.Nat.{ℕ}
 use Rattle.numbers.specs.Choice.{firstOf}
 use Rattle.numbers.proofs.Refusals.{firstOf-none}
-use Rattle.site.specs.declared.Scenario.{Scenario}
 use Rattle.site.specs.declared.SiteRead.{SiteRead}
 use Rattle.site.specs.Scenario.{withDiets}
 use Rattle.site.specs.Site.{siteRefusal, readSite}
@@ -15,7 +14,7 @@ use Rattle.foods.specs.Foods.{foodsRefusal, foodsFigures}
 use Rattle.diet.specs.Diet.{dietsOf}
 use Rattle.book.specs.Book.{bookRefusal, bookTable}
 use Rattle.files.specs.declared.DietsRead.{DietsRead}
-use Rattle.files.specs.Files.{foodsIf, Files, lengthRefusal, foodsRefusalIn, beforeBookRefusal, filesRefusal, withFoods}
+use Rattle.files.specs.Files.{foodsIf, Files, lengthRefusal, beforeBookRefusal, filesRefusal, withFoods}
 use Rattle.files.specs.Internal.{DietsTaken, FilesAreRead}
 
 -- the foods block, if there is one

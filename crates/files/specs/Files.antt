@@ -29,7 +29,7 @@ pub record Files : Type 0 where
   pub foods : FoodsFile
   pub book : List ℕ
 
--- without a foods block, with one, and as a test says
+-- without a foods block, with one, and with or without as `has` says
 abbrev pub filesOf : List ℕ → List ℕ → Files
 filesOf site book = record { site = site; foods = none; book = book }
 

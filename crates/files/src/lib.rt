@@ -1,4 +1,4 @@
-// A call's files: the site file, a foods block or none, and the rate book, read in the order of their refusals.
+// A call's files: the site file, a foods block or none, and the rate book, read or refused with the first of their numbers.
 use block::WRONG_LENGTH;
 use book::BOOK_BYTES;
 use book::TABLE_NUMBERS;

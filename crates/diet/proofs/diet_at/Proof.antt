@@ -2,6 +2,7 @@
 -- Assumes nothing.
 use native.Mathlib.Omega.{arith}
 use Rattle.diet.specs.Diet.{dietAt}
+use Rattle.diet.proofs.DietBounds.{diet-le}
 use borrow.Author.Needs.{needs}
 use Rattle.diet.proofs.diet_at.Statement.{statement}
 use Rattle.diet.proofs.diet_at.Tie as tie
@@ -69,7 +70,9 @@ add-result-9 c = search needs
 
 returns : tie.Need-returns
 unfolding dietAt
-returns c = omega arith
+returns c =
+    let pre = c .before .before .before .before .before .before .before .before .before .before .pre in
+    omega (arith, diet-le _ (pre .0) _ (pre .1))
 
 pub diet-at-spec : {M : Type 1} → statement M
 diet-at-spec =
