@@ -238,7 +238,7 @@ fn the_other_checks_on_the_page_come_out() {
     let page = format();
     assert_eq!(check_of(&block_of(0, &[])), 2);
     assert_eq!(check_of(&block_of(FOODS_NUMBER, &[])), 3);
-    assert!(page.contains("A block of zeros with edition 1 has the check 2, with number 1 too 3."));
+    assert!(page.contains("A block of zeros with edition 1 has the check 2; with number 1 as well, 3."));
     let site = published::site();
     let bytes = hexadecimal(&site[BODY_BYTES..BLOCK_BYTES]);
     assert!(page.contains(&format!("has the check 44,952,423, in bytes {bytes}.")));
