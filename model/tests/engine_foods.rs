@@ -44,7 +44,7 @@ fn a_whole_childhood() {
     assert_eq!(comparison.month_foods(&site, foods, &book, &state).number, 21);
 }
 
-/// A block whose figures all differ but for the shares, so that no two can be exchanged unseen.
+/// A block whose figures all differ, so that no two can be exchanged unseen.
 #[test]
 fn each_figure_stands_in_its_place() {
     let foods = Foods {
@@ -107,7 +107,7 @@ fn blocks_of_every_length() {
     let mut comparison = Comparison::new("foods of every length");
     let (site, book) = (published::site(), curves::book());
     let bytes = [foods_file(&typical_foods()), foods_file(&typical_foods())].concat();
-    for length in (0..=bytes.len()).chain([0]) {
+    for length in 0..=bytes.len() {
         let number = comparison.read_foods(&bytes[..length]);
         assert_eq!(number, if length == BLOCK_BYTES { 0 } else { 1 });
         comparison.birth_foods(&site, Some(&bytes[..length]), &book);
@@ -120,6 +120,7 @@ fn any_bytes() {
     let mut comparison = Comparison::new("foods of any bytes");
     let mut generator = Generator::new(202);
     let (site, book) = (published::site(), curves::book());
+    let mut met = BTreeSet::new();
     for turn in 0..3_000 {
         let mut foods: Vec<u8> = (0..BLOCK_BYTES).map(|_| generator.any() as u8).collect();
         // Framed as a foods block, from some byte on.
@@ -132,9 +133,10 @@ fn any_bytes() {
         if turn % 3 != 1 {
             cards::seal(&mut foods);
         }
-        comparison.read_foods(&foods);
-        comparison.birth_foods(&site, Some(&foods), &book);
+        met.insert(comparison.read_foods(&foods));
+        met.insert(comparison.birth_foods(&site, Some(&foods), &book).number);
     }
+    assert_eq!(met, BTreeSet::from([0, 3, 4, 11]));
 }
 
 #[test]
@@ -182,15 +184,18 @@ fn every_single_fault() {
 fn several_faults_at_once() {
     let mut comparison = Comparison::new("several faults with foods");
     let mut generator = Generator::new(206);
+    let mut met = BTreeSet::new();
     for turn in 0..3_000 {
         let faults = generator.between(1, 4) as usize;
         let (site, foods, book) = random::card_with_foods(&mut generator, Range::of_turn(turn), faults);
         let length = list_length(&mut generator);
-        comparison.read_foods(&foods);
-        comparison.birth_foods(&site, Some(&foods), &book);
-        comparison.month_foods(&site, Some(&foods), &book, &random::any_state(&mut generator));
-        comparison.run_foods(&site, Some(&foods), &book, length);
+        let state = random::any_state(&mut generator);
+        met.insert(comparison.read_foods(&foods));
+        met.insert(comparison.birth_foods(&site, Some(&foods), &book).number);
+        met.insert(comparison.month_foods(&site, Some(&foods), &book, &state).number);
+        met.insert(comparison.run_foods(&site, Some(&foods), &book, length).number);
     }
+    assert_eq!(met, BTreeSet::from([0, 1, 2, 3, 4, 5, 6, 7, 8, 9, 10, 11, 20, 21, 22]));
 }
 
 #[test]
@@ -309,6 +314,22 @@ fn foods_that_bring_the_sites_diet_change_nothing() {
         whole += usize::from(answer.months == 84);
     }
     assert!(whole > 100, "{whole} whole runs");
+}
+
+/// The engine's birth takes nothing from the foods but their refusals, whatever diet they bring.
+#[test]
+fn accepted_foods_of_any_diet_change_no_birth() {
+    let mut generator = Generator::new(211);
+    let mut met = BTreeSet::new();
+    for turn in 0..3_000 {
+        let range = Range::of_turn(turn);
+        let (site, book) = (random::site(&mut generator, range), random::book(&mut generator, range));
+        let foods = random::foods(&mut generator, Range::of_turn(turn / 3));
+        let without = ffi::birth(&site, &book);
+        assert_eq!(ffi::birth_foods(&site, Some(&foods_file(&foods)), &book), without);
+        met.insert((without.number, (0..AGES).any(|age| foods.diet(age) > 1_000_000_000)));
+    }
+    assert_eq!(met, BTreeSet::from([(0, false), (0, true), (22, false), (22, true)]));
 }
 
 /// The foods of one age alone refuse a run that is accepted without them, and the month keeps its state.

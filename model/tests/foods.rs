@@ -19,6 +19,7 @@ use jurengate_model::site::{place, AGES, SITE_FIELDS};
 use jurengate_model::state::{State, MONTHS};
 use jurengate_model::uptake::intakes;
 use slips::{first, month_call, month_slips, ones_and_twos, run_call, run_slips, Slip};
+use std::collections::BTreeSet;
 
 /// The worked figure: one age's grams of the fifteen foods, then their leads, in the order E-4d to E-4r.
 const GRAMS: [u16; FOODS] = [63, 32, 10, 4, 6, 171, 36, 34, 124, 20, 53, 35, 6, 40, 1];
@@ -75,7 +76,7 @@ fn the_worked_figures_terms_and_diet() {
     assert!((1..AGES).all(|age| worked().diet(age) == 0));
 }
 
-/// The worked figure tells the demanded reading from five others.
+/// Works out the readings that docs/DECISIONS.md 48 and 49 refuse: with the worked figure the model has none of them.
 #[test]
 fn refused_readings_give_other_diets() {
     let grams = |food: usize| u128::from(GRAMS[food]);
@@ -98,9 +99,9 @@ fn refused_readings_give_other_diets() {
         halved.map(|(food, _, local)| bought(local) * lead(food) * grams(food) / 100).iter().sum::<u128>();
     let infant_twice = DIET + lead(food::INFANT) * grams(food::INFANT);
     let no_candy = DIET - lead(food::CANDY) * grams(food::CANDY);
-    assert_eq!([rest + evened, rest + whole, infant_twice, no_candy], [11_566, 11_777, 11_745, 10_971]);
-    assert_eq!(one_floor_diet(), 11_089);
-    assert!([11_566, 11_777, 11_745, 10_971, 11_089].iter().all(|&refused| worked().diet(0) != refused));
+    let refused = [rest + evened, rest + whole, infant_twice, no_candy, one_floor_diet()];
+    assert_eq!(refused, [11_566, 11_777, 11_745, 10_971, 11_089]);
+    assert!(!refused.contains(&worked().diet(0)));
 }
 
 /// The worked figure's diet with one floor for the whole sum.
@@ -160,7 +161,7 @@ fn the_worked_figures_check() {
     assert_eq!(check(&Foods::default()), 3);
 }
 
-/// A block laid out by the request's bytes, no two figures alike but the shares.
+/// A block laid out by the request's bytes, no two figures alike.
 #[test]
 fn every_figure_stands_in_its_bytes() {
     let mut block = vec![0; BLOCK_BYTES];
@@ -380,6 +381,22 @@ fn foods_that_bring_the_sites_diet_change_nothing() {
         whole += usize::from(without.0.months == 84);
     }
     assert!(whole > 50, "{whole} whole runs");
+}
+
+/// Birth takes nothing from the foods but their refusals: accepted foods change no birth, whatever diet they bring.
+#[test]
+fn accepted_foods_of_any_diet_change_no_birth() {
+    let mut generator = Generator::new(72);
+    let mut met = BTreeSet::new();
+    for turn in 0..300 {
+        let range = Range::of_turn(turn);
+        let (site, book) = (random::site(&mut generator, range), random::book(&mut generator, range));
+        let foods = random::foods(&mut generator, Range::of_turn(turn / 3));
+        let without = birth(&site, &book);
+        assert_eq!(birth_foods(&site, Some(&foods_file(&foods)), &book), without);
+        met.insert((without.number, (0..AGES).any(|age| foods.diet(age) > 1_000_000_000)));
+    }
+    assert_eq!(met, BTreeSet::from([(0, false), (0, true), (22, false), (22, true)]));
 }
 
 #[test]
