@@ -25,8 +25,7 @@ use Rattle.site.specs.Site.{siteForm, siteRefusal, readAs, readSite}
 use Rattle.site.proofs.FieldsWithin.{read-refusal}
 use Rattle.site.proofs.ReadBack.{fields-read-back}
 use Rattle.foods.specs.Names.{figureCount}
-use Rattle.foods.specs.Foods.{foodsBody}
-use Rattle.foods.specs.Laws.{FoodsRead}
+use Rattle.foods.specs.Laws.{foodsBody, FoodsRead}
 use Rattle.foods.proofs.ReadBack.{body-passes as foods-body-passes, figures-read-back}
 use Rattle.diet.specs.Diet.{foodLead, inMeat, halfBought, homeGrown, caught, inWholeFoods, dietAt, dietsOf}
 use Rattle.diet.specs.Bench.{workedFoods}

@@ -9,7 +9,8 @@ use Rattle.block.specs.Block.{byteAt, blockBytes}
 use Rattle.block.specs.Writer.{sealed, bodyOf}
 use Rattle.site.specs.Fields.{ages}
 use Rattle.site.specs.Site.{siteForm, siteRefusal}
-use Rattle.foods.specs.Foods.{foodsRefusal, foodsBody}
+use Rattle.foods.specs.Foods.{foodsRefusal}
+use Rattle.foods.specs.Laws.{foodsBody}
 use Rattle.diet.specs.Bench.{workedFoods}
 use Rattle.row.specs.Row.{unit, numbersARow, lastMonth}
 use Rattle.book.specs.Book.{bookBytes, tableNumbers, bookForm, bookRefusal}

@@ -6,7 +6,7 @@ use Rattle.numbers.specs.Sums.{sumTo}
 use Rattle.block.specs.Block.{wordAt, checkOf}
 use Rattle.block.specs.Writer.{le16, le32, laidBy, bodyWith}
 use Rattle.foods.specs.Figures.{sharesFit, allWithin, amountsFit}
-use Rattle.foods.specs.Foods.{foodsBody}
+use Rattle.foods.specs.Laws.{foodsBody}
 use Rattle.diet.specs.Diet.{foodLead, inMeat, halfBought, homeGrown, caught, inWholeFoods, dietAt}
 use Rattle.diet.specs.Bench.{workedFoods, WorkedDiet}
 

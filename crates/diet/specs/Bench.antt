@@ -8,7 +8,8 @@ use lib.ListN.{replicate}
 use Rattle.block.specs.Block.{checkOf}
 use Rattle.foods.specs.Names.{canFruit, canVeg, freshFruit, freshVeg, vegetable, fruit, fish, game}
 use Rattle.foods.specs.Figures.{sharesFit, amountsFit}
-use Rattle.foods.specs.Foods.{blankFigures, foodsBody}
+use Rattle.foods.specs.Foods.{blankFigures}
+use Rattle.foods.specs.Laws.{foodsBody}
 use Rattle.diet.specs.Diet.{foodLead, inMeat, halfBought, homeGrown, caught, wholeFoods, dietAt}
 
 -- the grams of age 0, which alone eats, fifteen leads, four shares and their four leads

@@ -16,8 +16,8 @@ use Rattle.block.proofs.Sealed.{length-sealed, words-sealed, fields-sealed, sea
 use Rattle.foods.specs.Names.{foodCount, amountCount, localCount, wideCount, figureCount}
 use Rattle.foods.specs.Figures.{sharesFrom, localLeadsFrom, sharesFit, amountsFit}
 use Rattle.foods.specs.Limits.{FoodsLimits}
-use Rattle.foods.specs.Foods.{leadsAt, foodsForm, figuresOf, foodsRefusal, foodsBody}
-use Rattle.foods.specs.Laws.{BodyReadBack, FiguresReadBack}
+use Rattle.foods.specs.Foods.{leadsAt, foodsForm, figuresOf, foodsRefusal}
+use Rattle.foods.specs.Laws.{foodsBody, BodyReadBack, FiguresReadBack}
 use Rattle.foods.proofs.ReadAnswers.{refusal-by-tests}
 use Rattle.foods.proofs.FigureTests.{fit-limits}
 use Rattle.foods.proofs.FiguresWithin.{accepted-figures}

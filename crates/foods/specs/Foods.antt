@@ -2,12 +2,11 @@
 -- Assumes nothing.
 use Prim.Native.Nat.{ℕ, _+_, _*_}
 use mathlib.Core.List.{List, [], _∷_, _++_}
-use lib.ListN.{length, take, drop, replicate}
+use lib.ListN.{length, replicate}
 use lib.Dec.{eqb}
 use Rattle.numbers.specs.Choice.{unless, firstOf, answerBy}
 use Rattle.block.specs.declared.Form.{Form}
 use Rattle.block.specs.Block.{blockBytes, fieldsAt, blockRefusal, wordsFrom, fieldsFrom}
-use Rattle.block.specs.Writer.{layoutWords, layout, bodyWith}
 use Rattle.foods.specs.Names.{amountCount, wideCount, figureCount}
 use Rattle.foods.specs.Figures.{sharesFit, amountsFit}
 
@@ -42,7 +41,3 @@ blankFigures = replicate figureCount 0
 -- the figures that reading a block leaves
 unfoldable pub foodsFigures : List ℕ → List ℕ
 foodsFigures block = answerBy (foodsRefusal block) (figuresOf block) (λ r. blankFigures)
-
--- the body that 128 figures are laid out in
-unfoldable pub foodsBody : List ℕ → List ℕ
-foodsBody f = bodyWith foodsForm (layoutWords (take amountCount f) ++ layout (drop amountCount f))

@@ -2,15 +2,15 @@
 -- Assumes nothing.
 use mathlib.Core.Path.{_≡_}
 use mathlib.Core.Bool.{true}
-use mathlib.Core.List.{List}
+use mathlib.Core.List.{List, _++_}
 use Prim.Native.Nat.{ℕ}
-use lib.ListN.{length}
+use lib.ListN.{length, take, drop}
 use Rattle.block.specs.Block.{blockBytes, fieldAt, checkAt, checkOf}
-use Rattle.block.specs.Writer.{written, BodyPasses}
-use Rattle.foods.specs.Names.{figureCount}
+use Rattle.block.specs.Writer.{layoutWords, layout, bodyWith, written, BodyPasses}
+use Rattle.foods.specs.Names.{amountCount, figureCount}
 use Rattle.foods.specs.Figures.{sharesFit, amountsFit}
 use Rattle.foods.specs.Limits.{FoodsLimits}
-use Rattle.foods.specs.Foods.{foodsForm, figuresOf, foodsRefusal, foodsFigures, foodsBody}
+use Rattle.foods.specs.Foods.{foodsForm, figuresOf, foodsRefusal, foodsFigures}
 
 -- the figures of an accepted block are within their limits
 abbrev pub FoodsWithin : Type 0
@@ -19,6 +19,10 @@ FoodsWithin = (block : List ℕ) → foodsRefusal block ≡ 0 → FoodsLimits (f
 -- only a block with the right check is accepted
 abbrev pub RightCheck : Type 0
 RightCheck = (block : List ℕ) → foodsRefusal block ≡ 0 → fieldAt block checkAt ≡ checkOf block
+
+-- the body that 128 figures are laid out in
+unfoldable pub foodsBody : List ℕ → List ℕ
+foodsBody f = bodyWith foodsForm (layoutWords (take amountCount f) ++ layout (drop amountCount f))
 
 -- a block is read as these figures
 pub record FoodsRead (block f : List ℕ) : Type 0 where
