@@ -165,7 +165,7 @@ pub fn read_foods(foods: &[u8]) -> Result<Figures, Refusal> {
     Ok(figures)
 }
 
-/// What the foods give at an age; at most 1.9×10^11 pg.
+/// What the foods give at an age; at most 1.5×10^11 pg.
 fn diet(figures: &Figures, age: usize) -> u64 {
     let at = |index: usize| u64::from(figures[index]);
     let grams = |food: usize| at(FOODS * age + food);

@@ -250,7 +250,7 @@ abbrev monthBrings : ℕ
 monthBrings = daysAMonth * dayBrings
 
 -- what is computed of a scenario for each age
-record Eats (scenario : Scenario) : Type 0 where
+record AgesPass (scenario : Scenario) : Type 0 where
   pub mother : motherOf scenario ≡ 1_000
   pub intakes : every (λ (age : ℕ). eqb (intakeRefusal (exposureAt scenario age)) 0) 0 ages ≡ true
   pub uptakes : every (λ (age : ℕ). leb (uptakeAt scenario age) dayBrings) 0 ages ≡ true
@@ -269,10 +269,10 @@ record Reads (f : Files) (scenario : Scenario) : Type 0 where
   pub scenario-is : scenarioIn f ≡ scenario
   pub table-is : tableIn f ≡ witnessTable
 
-module _ {f : Files} {scenario : Scenario} (reads : Reads f scenario) (eats : Eats scenario) where
+module _ {f : Files} {scenario : Scenario} (reads : Reads f scenario) (ages-pass : AgesPass scenario) where
   newborn-is : newborn (scenarioIn f) (tableIn f) ≡ child
   unfolding newborn child row
-  newborn-is = rw (reads .scenario-is, reads .table-is, table-row 0 (omega arith), eats .mother)
+  newborn-is = rw (reads .scenario-is, reads .table-is, table-row 0 (omega arith), ages-pass .mother)
 
   newborn-passes : newbornRefusal (scenarioIn f) (tableIn f) ≡ 0
   unfolding newbornRefusal unless
@@ -289,12 +289,12 @@ module _ {f : Files} {scenario : Scenario} (reads : Reads f scenario) (eats : Ea
   module _ (m : ℕ) (most : m ≤ lastMonth) where
     intakes-pass : intakeRefusal (exposureIn scenario m) ≡ 0
     intakes-pass =
-        eqb-true _ 0 (every-at (λ (age : ℕ). eqb (intakeRefusal (exposureAt scenario age)) 0) 0 ages (eats .intakes) (ageOf m) (omega arith) (omega (arith, age-law m most)))
+        eqb-true _ 0 (every-at (λ (age : ℕ). eqb (intakeRefusal (exposureAt scenario age)) 0) 0 ages (ages-pass .intakes) (ageOf m) (omega arith) (omega (arith, age-law m most)))
 
     uptake-most : monthUptake scenario witnessTable m ≤ dayBrings
     uptake-most =
         rw (uptake-of-age scenario m most)
-        (leb-true _ dayBrings (every-at (λ (age : ℕ). leb (uptakeAt scenario age) dayBrings) 0 ages (eats .uptakes) (ageOf m) (omega arith) (omega (arith, age-law m most))))
+        (leb-true _ dayBrings (every-at (λ (age : ℕ). leb (uptakeAt scenario age) dayBrings) 0 ages (ages-pass .uptakes) (ageOf m) (omega arith) (omega (arith, age-law m most))))
 
     uptake-of-files : monthUptake (scenarioIn f) (tableIn f) m ≤ dayBrings
     uptake-of-files = rw (reads .scenario-is, reads .table-is) uptake-most
@@ -352,10 +352,10 @@ reads : Reads witnessFiles (scenarioOf witnessFields)
 unfolding filesRefusal beforeBookRefusal
 reads = record { lengths = both-long; files = rw (both-long, site-passes, book-reads .refusal); scenario-is = site-scenario; table-is = book-reads .table }
 
-eats : Eats (scenarioOf witnessFields)
+ages-pass : AgesPass (scenarioOf witnessFields)
 unfolding every row witnessRow tab witnessFields scenarioOf exposureAt airIntake waterIntake soilIntake dustConcentration dustIntake intakesOf refusalOf intakeRefusal unless
     sumTo percentOf saturationOf absorbable absorbableTotal passiveUptake activePart activeUptake mediumUptake airUptake dayUptake
-eats = record { mother = refl; intakes = refl; uptakes = refl }
+ages-pass = record { mother = refl; intakes = refl; uptakes = refl }
 
 uptake-is : uptakeAt (scenarioOf witnessFields) 0 ≡ dayBrings
 unfolding row witnessRow tab witnessFields scenarioOf exposureAt airIntake waterIntake soilIntake dustConcentration dustIntake intakesOf
@@ -383,10 +383,10 @@ reads-fed =
       table-is = book-reads .table;
     }
 
-eats-fed : Eats fed
+ages-pass-fed : AgesPass fed
 unfolding every row witnessRow tab witnessFields scenarioOf exposureAt airIntake waterIntake soilIntake dustConcentration dustIntake intakesOf refusalOf intakeRefusal unless
     sumTo percentOf saturationOf absorbable absorbableTotal passiveUptake activePart activeUptake mediumUptake airUptake dayUptake diets
-eats-fed = record { mother = refl; intakes = refl; uptakes = refl }
+ages-pass-fed = record { mother = refl; intakes = refl; uptakes = refl }
 
 uptake-fed : uptakeAt fed 0 ≡ 11_080
 unfolding row witnessRow tab witnessFields scenarioOf exposureAt airIntake waterIntake soilIntake dustConcentration dustIntake intakesOf
@@ -403,13 +403,13 @@ something-accepted =
     record {
       site = site-passes;
       book = book-reads .refusal;
-      birth = ap (λ (x : BirthAnswer). x .refusal) (birth-is reads eats);
-      month = first-month-passes reads eats;
+      birth = ap (λ (x : BirthAnswer). x .refusal) (birth-is reads ages-pass);
+      month = first-month-passes reads ages-pass;
       uptake = first-uptake witnessFiles _ reads ∙ uptake-is;
-      run = run-passes reads eats;
+      run = run-passes reads ages-pass;
       foods = foods-read .refusal;
-      fed-birth = ap (λ (x : BirthAnswer). x .refusal) (birth-is reads-fed eats-fed);
-      fed-month = first-month-passes reads-fed eats-fed;
+      fed-birth = ap (λ (x : BirthAnswer). x .refusal) (birth-is reads-fed ages-pass-fed);
+      fed-month = first-month-passes reads-fed ages-pass-fed;
       fed-uptake = first-uptake fedFiles fed reads-fed ∙ uptake-fed;
-      fed-run = run-passes reads-fed eats-fed;
+      fed-run = run-passes reads-fed ages-pass-fed;
     }
