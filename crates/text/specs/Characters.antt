@@ -8,5 +8,8 @@ lineFeed = 10
 abbrev pub space : ℕ
 space = 32
 
+abbrev pub star : ℕ
+star = 42
+
 abbrev pub point : ℕ
 point = 46
