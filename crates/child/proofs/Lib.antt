@@ -1,3 +1,4 @@
 pub mod BornAnswers
+pub mod CourseSteps
 pub mod MonthAnswers
 pub mod RunLoop

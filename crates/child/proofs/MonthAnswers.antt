@@ -19,12 +19,12 @@ use Rattle.steps.specs.declared.Reached.{Reached}
 use Rattle.state.specs.State.{monthUptakeLimit, stateRefusal}
 use Rattle.steps.specs.Steps.{stepsADay, daysAMonth, daysShares}
 use Rattle.child.specs.Birth.{acceptedBirth, refusedBirth, birthAnswer}
-use Rattle.child.specs.Month.{monthAfter, exposureIn, saturationMonth, monthUptake, monthShares, refusedMonth, acceptedMonth, childRefusal, monthLast}
+use Rattle.child.specs.Month.{monthAfter, exposureIn, saturationMonth, monthUptake, monthShares, refusedMonth, acceptedMonth, childRefusal, monthLast, childMonth}
 use Rattle.exposure.specs.declared.Exposure.{Exposure}
 use Rattle.uptake.specs.Uptake.{dayUptake}
 use Rattle.uptake.specs.Laws.{Weights, dayLimit}
 use Rattle.steps.specs.Internal.{Steppable, ReachedBy}
-use Rattle.child.specs.Internal.{Decoded, steppedMonth, monthFrom, childMonth}
+use Rattle.child.specs.Internal.{Decoded, steppedMonth, monthFrom}
 use Rattle.state.proofs.SoundState.{passed-sound, passed-before}
 
 -- what a month and a birth answer, by the number

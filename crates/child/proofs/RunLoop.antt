@@ -13,9 +13,8 @@ use Rattle.row.specs.Row.{lastMonth}
 use Rattle.kinetics.specs.declared.State.{State}
 use Rattle.child.specs.declared.MonthAnswer.{MonthAnswer}
 use Rattle.child.specs.declared.RunAnswer.{RunAnswer}
-use Rattle.child.specs.Month.{childRefusal}
+use Rattle.child.specs.Month.{childRefusal, childMonth}
 use Rattle.child.specs.Months.{MonthsRun, noMonth, monthThen, andThen, monthsBy, runAnswer, runList}
-use Rattle.child.specs.Internal.{childMonth}
 use Rattle.child.proofs.MonthAnswers.{refused-answer, answer-refusal}
 
 -- the figures bs, and then the run r

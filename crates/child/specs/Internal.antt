@@ -17,7 +17,7 @@ use Rattle.row.specs.declared.Row.{Row}
 use Rattle.child.specs.declared.MonthAnswer.{MonthAnswer}
 use Rattle.steps.specs.Steps.{daysAMonth, daysShares, lastFrom, stepsRefusal}
 use Rattle.child.specs.Months.{MonthsRun, monthsBy}
-use Rattle.child.specs.Month.{monthAfter, monthAnswer, childRefusals, childRefusal, monthLast}
+use Rattle.child.specs.Month.{monthAfter, monthAnswer, childRefusals, monthLast, childMonth}
 
 -- a scenario and a table that accepted files give
 pub record Decoded (scenario : Scenario) (table : List ℕ) : Type 0 where
@@ -33,9 +33,6 @@ module _ (s : ℕ) (a : State) (scenario : Scenario) (table : List ℕ) where
   unfoldable pub monthFrom : MonthAnswer
   monthFrom =
       monthAnswer (firstOf (drop 1 (childRefusals s a scenario table))) a (monthLast s a scenario table) (rowOf table (monthAfter a))
-
-  unfoldable pub childMonth : MonthAnswer
-  childMonth = monthAnswer (childRefusal s a scenario table) a (monthLast s a scenario table) (rowOf table (monthAfter a))
 
 -- the months of a run of accepted files
 unfoldable pub childRun : ℕ → State → Scenario → List ℕ → MonthsRun

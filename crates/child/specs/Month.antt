@@ -71,3 +71,7 @@ module _ (s : ℕ) (a : State) (scenario : Scenario) (table : List ℕ) where
   -- the state that the month's steps leave
   unfoldable pub monthLast : State
   monthLast = lastFrom (monthRates table (monthAfter a)) a (monthShares s scenario table (monthAfter a))
+
+  -- what a month of files that pass answers
+  unfoldable pub childMonth : MonthAnswer
+  childMonth = monthAnswer childRefusal a monthLast (rowOf table (monthAfter a))

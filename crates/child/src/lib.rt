@@ -15,9 +15,10 @@ ghost use Rattle.state.specs.State.{stateRefusal};
 ghost use Rattle.uptake.specs.Laws.{dayLimit};
 ghost use Rattle.steps.specs.Steps.{stepsADay};
 ghost use Rattle.child.specs.Birth.{newborn, newbornRefusal, birthAnswer};
-ghost use Rattle.child.specs.Month.{refusedMonth, acceptedMonth};
-ghost use Rattle.child.specs.Internal.{Decoded, steppedMonth, monthFrom, childMonth};
+ghost use Rattle.child.specs.Month.{refusedMonth, acceptedMonth, childMonth};
+ghost use Rattle.child.specs.Internal.{Decoded, steppedMonth, monthFrom};
 
+pub mod courses; // courses.rt: a child's course up to a month
 pub mod months; // months.rt: the months of a run
 
 const STEPS_A_DAY: u64 = 6;
@@ -33,6 +34,13 @@ pub struct BirthAnswer {
 
 // What a month answers: 0, the child a month later and its blood figure; or a refusal, the child as it was and 0.
 pub struct MonthAnswer {
+    pub refusal: u32,
+    pub state: State,
+    pub blood: u32, // thousandths of ug/dL
+}
+
+// A child's course up to a month: 0, the child at the month's end and the month's blood figure, 0 at birth; or the first refusal up to it.
+pub struct Course {
     pub refusal: u32,
     pub state: State,
     pub blood: u32, // thousandths of ug/dL

@@ -15,9 +15,9 @@ use Rattle.state.specs.State.{zeroState}
 use Rattle.child.specs.declared.BirthAnswer.{BirthAnswer}
 use Rattle.child.specs.declared.RunAnswer.{RunAnswer}
 use Rattle.child.specs.Birth.{newborn, newbornRefusal, birthAnswer}
-use Rattle.child.specs.Month.{monthAfter, refusedMonth, monthAnswer, childRefusal, monthLast}
+use Rattle.child.specs.Month.{monthAfter, refusedMonth, monthAnswer, childRefusal, monthLast, childMonth}
 use Rattle.child.specs.Months.{MonthsRun, noMonth, monthsBy, runAnswer, runList}
-use Rattle.child.specs.Internal.{Decoded, childMonth, childRun}
+use Rattle.child.specs.Internal.{Decoded, childRun}
 use Rattle.child.proofs.MonthAnswers.{refused-answer, refused-birth, birth-answer-refusal}
 use Rattle.child.proofs.RunLoop.{Done, months-agree}
 use Rattle.files.specs.Files.{Files, lengthRefusal, beforeBookRefusal, filesRefusal, scenarioIn, tableIn}

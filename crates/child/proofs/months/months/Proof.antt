@@ -7,7 +7,8 @@ use borrow.Author.Needs.{needs}
 use denote.Ref.{now}
 use Rattle.row.specs.Row.{lastMonth}
 use Rattle.steps.specs.Steps.{stepsADay}
-use Rattle.child.specs.Internal.{childMonth, childRun}
+use Rattle.child.specs.Month.{childMonth}
+use Rattle.child.specs.Internal.{childRun}
 use Rattle.child.proofs.RunLoop.{InRun, run-start, run-stop, run-next, run-end, child-kept}
 use Rattle.child.proofs.months.months.Statement.{statement}
 use Rattle.child.proofs.months.months.Tie as tie
