@@ -1,2 +1,3 @@
 pub mod FilesPassed
+pub mod FirstBytes
 pub mod ReadAnswers

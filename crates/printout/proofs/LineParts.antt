@@ -8,7 +8,8 @@ use Rattle.text.specs.Decimal.{decimal}
 use Rattle.text.specs.Figure.{figure}
 use Rattle.text.specs.Internal.{Put}
 use Rattle.text.proofs.Puts.{put-then}
-use Rattle.printout.specs.Printout.{flag, monthLine, refusedText, afterText, refusedLine}
+use Rattle.printout.specs.Printout.{flag, monthLine, afterText, refusedLine}
+use Rattle.text.specs.Words.{refusedText}
 
 module _ {l₀ l₁ l₂ l₃ l₄ l₅ l₆ : List ℕ} {e₀ e₁ e₂ e₃ e₄ e₅ e₆ : ℕ} (month blood : ℕ) where
   pub put-month : {mark : ℕ} → mark ≡ flag blood

@@ -14,6 +14,7 @@ use Rattle.engine.specs.Run.{runOf}
 use Rattle.text.specs.Characters.{lineFeed, space}
 use Rattle.text.specs.Decimal.{decimal}
 use Rattle.text.specs.Figure.{figure}
+use Rattle.text.specs.Words.{refusedText}
 
 -- `W` if the unrounded figure is over 30,000, else `-`
 abbrev pub flag : ℕ → ℕ
@@ -28,10 +29,7 @@ unfoldable pub monthLines : ℕ → List ℕ → List ℕ
 monthLines m [] = []
 monthLines m (blood ∷ figures) = monthLine (suc m) blood ++ monthLines (suc m) figures
 
--- `refused ` and ` after `
-abbrev pub refusedText : List ℕ
-refusedText = 114 ∷ 101 ∷ 102 ∷ 117 ∷ 115 ∷ 101 ∷ 100 ∷ 32 ∷ []
-
+-- ` after `
 abbrev pub afterText : List ℕ
 afterText = 32 ∷ 97 ∷ 102 ∷ 116 ∷ 101 ∷ 114 ∷ 32 ∷ []
 
