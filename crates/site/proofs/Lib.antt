@@ -1,4 +1,5 @@
 pub mod FieldTests
 pub mod FieldsWithin
+pub mod PutFits
 pub mod ReadAnswers
 pub mod ReadBack

@@ -1,4 +1,5 @@
 pub mod Fields
 pub mod Scenario
 pub mod Site
+pub mod Put
 pub mod Laws

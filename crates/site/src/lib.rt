@@ -9,8 +9,9 @@ ghost use mathlib.Core.Path.{_≡_};
 ghost use Rattle.site.specs.Scenario.{dustSourceOf, waterSourceOf, dietsIn, scenarioOf};
 ghost use Rattle.site.specs.Site.{refusedWith, readSite};
 
-mod limits;
+pub mod limits;
 pub mod places;
+pub mod put; // put.rt: figures put over a site file's own
 
 // A field, or the sum of the two water shares, outside its limits.
 const FIELD_OUTSIDE_LIMITS: u32 = 7;
@@ -85,7 +86,7 @@ fn diets_in(fields: [u32; FIELDS]) -> [u64; AGES]
 }
 
 // The scenario of a site file's fields.
-fn scenario_of(fields: [u32; FIELDS]) -> Scenario
+pub fn scenario_of(fields: [u32; FIELDS]) -> Scenario
     ensures { λ r. ⌜ r ≡ scenarioOf fields ⌝ }
 {
     let dust_source = dust_source_of(fields[places::DUST_MODE]);

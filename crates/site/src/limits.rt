@@ -94,7 +94,7 @@ fn single_limit(place: usize) -> u32
 }
 
 // The limit of the field at a place.
-fn limit_of(place: usize) -> u32
+pub fn limit_of(place: usize) -> u32
     requires { ⌜ place < fieldCount ⌝ }
     ensures { λ r. ⌜ r ≡ at limits place ⌝ }
 {
