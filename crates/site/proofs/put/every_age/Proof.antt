@@ -1,6 +1,7 @@
 -- `site::put::every_age` meets its contract: the figure stands at the ages passed.
 -- Assumes nothing.
 use Prim.Native.Nat.{_-_}
+use native.Mathlib.Omega.{arith}
 use borrow.Author.Needs.{needs}
 use Rattle.site.specs.Fields.{ages}
 use Rattle.site.proofs.PutFits.{InAges, ages-none, ages-next, ages-all}
@@ -32,7 +33,7 @@ loop-less : tie.Need-loop-less Inv-loop μ-loop
 loop-less c = search needs
 
 loop-again : tie.Need-loop-again Inv-loop μ-loop
-loop-again c = ages-next (c .before .loop .inv) (c .loop-test .taken)
+loop-again c = ages-next (c .before .loop .inv) (omega (arith, c .loop-test .taken))
 
 returns : tie.Need-returns Inv-loop μ-loop
 returns c = ages-all (c .before .loop .inv) (c .loop-test .left)
