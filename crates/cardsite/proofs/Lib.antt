@@ -1,0 +1,4 @@
+pub mod Limited
+pub mod Putting
+pub mod Starts
+pub mod RowLaws
