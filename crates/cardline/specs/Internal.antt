@@ -1,0 +1,13 @@
+-- For the contracts between the functions: the line of a row, put at the start of lent bytes. No open call's contract needs it.
+-- Assumes nothing.
+use mathlib.Core.Path.{_≡_}
+use Prim.Native.Nat.{ℕ}
+use mathlib.Core.List.{List, [], _∷_, _++_}
+use lib.ListN.{length, drop}
+use Rattle.files.specs.Files.{Files}
+use Rattle.lines.specs.declared.RowText.{RowText}
+use Rattle.cardline.specs.Pieces.{textLines}
+
+pub record TextPut (f : Files) (text : RowText) (before after : List ℕ) (bytes : ℕ) : Type 0 where
+  pub count : bytes ≡ length (textLines f (text ∷ []))
+  pub is : after ≡ textLines f (text ∷ []) ++ drop (length (textLines f (text ∷ []))) before

@@ -1,0 +1,20 @@
+-- `survey::row_answer` meets its contract.
+-- Assumes nothing.
+use borrow.Author.Needs.{needs}
+use mathlib.Core.Path.{_∙_}
+use Rattle.steps.specs.Steps.{stepsADay}
+use Rattle.survey.proofs.RowsKept.{kept-law}
+use Rattle.survey.proofs.row_answer.Statement.{statement}
+use Rattle.survey.proofs.row_answer.Tie as tie
+
+row-text-requires : tie.Need-row-text-requires
+row-text-requires c κs = search needs
+
+text-answer-requires : tie.Need-text-answer-requires
+text-answer-requires c κs = search needs
+
+returns : tie.Need-returns
+returns c = c .text-answer .ensures ∙ rw (c .before .row-text .ensures) (kept-law stepsADay _ _)
+
+pub row-answer-spec : {M : Type 1} → statement M
+row-answer-spec = tie.close (tie.spec row-text-requires text-answer-requires returns)
