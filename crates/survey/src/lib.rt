@@ -16,6 +16,8 @@ ghost use Rattle.steps.specs.Steps.{stepsADay};
 ghost use Rattle.survey.specs.Survey.{courseAnswer, cardAnswer, startAnswer, textAnswer, rowAnswer};
 ghost use Rattle.survey.specs.Internal.{Ready};
 
+pub mod values; // values.rt: an answer's number and values
+
 // What a row answers: the blood figure at its AGE in thousandths of ug/dL, that it is skipped, or why it is refused.
 pub enum RowAnswer {
     Blood(u32),
