@@ -19,14 +19,14 @@ use Rattle.lines.proofs.Walks.{walked}
 use Rattle.survey.specs.Survey.{rowAnswer, textAnswer}
 use Rattle.survey.proofs.RowsKept.{kept-law}
 use Rattle.cardline.specs.Cardline.{rowLine, joined, cardPrintout}
-use Rattle.cardline.specs.Pieces.{textLines, walkLine, lineOf, nextLine, lastLine, pieceLines, printed}
+use Rattle.cardline.specs.Pieces.{textLines, walkLine, lineRead, nextLine, lastLine, pieceLines, printed}
 use Rattle.cardline.specs.Internal.{TextPut}
 use Rattle.cardline.specs.Laws.{PieceLaw, PiecesLaw}
 
 -- the line that is put of a walk, of a row that has ended and of none
 module _ (f : Files) (r : Reader) (piece : List ℕ) {w : Walk} (is : w ≡ walkOf r piece) {before : List ℕ} where
   pub row-ended : {after : List ℕ} {bytes : ℕ} → w .ended ≡ true → TextPut f (w .row) before after bytes
-      → (record { reader = w .reader; used = w .used; bytes = bytes } ≡ lineOf f (walkOf r piece))
+      → (record { reader = w .reader; used = w .used; bytes = bytes } ≡ lineRead f r piece)
       × (after ≡ nextLine f r piece ++ drop (length (nextLine f r piece)) before)
   unfolding nextLine
   row-ended e put =
@@ -34,7 +34,7 @@ module _ (f : Files) (r : Reader) (piece : List ℕ) {w : Walk} (is : w ≡ walk
       rw (← is, line) (ap (λ (n : ℕ). record { reader = w .reader; used = w .used; bytes = n }) (put .count), put .is)
 
   pub row-goes-on : w .ended ≡ false
-      → (record { reader = w .reader; used = w .used; bytes = 0 } ≡ lineOf f (walkOf r piece))
+      → (record { reader = w .reader; used = w .used; bytes = 0 } ≡ lineRead f r piece)
       × (before ≡ nextLine f r piece ++ drop (length (nextLine f r piece)) before)
   unfolding nextLine textLines joined
   row-goes-on e =

@@ -23,13 +23,14 @@ textLines f rows = joined (map (λ (text : RowText). rowLine (textAnswer stepsAD
 abbrev pub walkLine : Files → Walk → List ℕ
 walkLine f w = textLines f (rowIn w)
 
-abbrev pub lineOf : Files → Walk → LineRead
-lineOf f w = record { reader = w .reader; used = w .used; bytes = length (walkLine f w) }
-
--- a line of a piece, and the line of the last row if only the end of the text ends it
+-- the next line of a piece: where the walk up to it has led, and its length
 unfoldable pub nextLine : Files → Reader → List ℕ → List ℕ
 nextLine f r piece = walkLine f (walkOf r piece)
 
+abbrev pub lineRead : Files → Reader → List ℕ → LineRead
+lineRead f r piece = record { reader = walkOf r piece .reader; used = walkOf r piece .used; bytes = length (nextLine f r piece) }
+
+-- the line of the last row, if only the end of the text ends it
 unfoldable pub lastLine : Files → Reader → List ℕ
 lastLine f r = textLines f (last r)
 

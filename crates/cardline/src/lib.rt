@@ -5,12 +5,9 @@ use lines::RowText;
 use survey::RowAnswer;
 ghost use mathlib.Core.Path.{_≡_};
 ghost use mathlib.Core.List.{_++_};
-ghost use Prim.Native.Nat.{_≤_};
 ghost use lib.ListN.{length, drop};
 ghost use Rattle.files.specs.Files.{filesOf};
-ghost use Rattle.lines.specs.Walk.{walkOf};
-ghost use Rattle.cardline.specs.Cardline.{rowLine};
-ghost use Rattle.cardline.specs.Pieces.{lineOf, nextLine, lastLine};
+ghost use Rattle.cardline.specs.Pieces.{lineRead, nextLine, lastLine};
 ghost use Rattle.cardline.specs.Internal.{TextPut};
 
 mod rows; // rows.rt: the line of an answer
@@ -41,7 +38,7 @@ pub fn next_line(
     piece: &[u8],
     target: &mut [u8; LINE_BYTES],
 ) -> LineRead
-    ensures { λ r. ⌜ r ≡ lineOf (filesOf (now (site .entry)) (now (book .entry))) (walkOf reader (now (piece .entry))) ⌝ }
+    ensures { λ r. ⌜ r ≡ lineRead (filesOf (now (site .entry)) (now (book .entry))) reader (now (piece .entry)) ⌝ }
     ensures { λ _. ⌜ now (target .exit) ≡ nextLine (filesOf (now (site .entry)) (now (book .entry))) reader (now (piece .entry)) ++ drop (length (nextLine (filesOf (now (site .entry)) (now (book .entry))) reader (now (piece .entry)))) (now (target .entry)) ⌝ }
 {
     let walk = lines::piece::to_row_end(reader, piece);

@@ -20,8 +20,7 @@ number-of-requires c κs = search needs
 
 returns : tie.Need-returns
 returns c =
-    let answered = c .before .before .before .row-answer .ensures in
-    (
+    let answered = c .before .before .before .row-answer .ensures in (
       c .number-of .ensures ∙ ap rowNumber answered,
       (c .before .before .blood-of .ensures ∙ ap rowBlood answered, c .before .is-skipped .ensures ∙ ap rowSkipped answered),
     )

@@ -1,67 +1,63 @@
+-- `leadcard::print_piece` is safe and ends: a walk stays within its piece, and goes on. The measure is the number of bytes left.
+-- Assumes nothing.
+use Prim.Native.Nat.{_-_, _≤_}
+use mathlib.Core.Path.{sym}
+use native.Mathlib.Omega.{arith}
+use borrow.Author.Needs.{needs}
+use lib.ListN.{length, length-append}
+use lib.Seq.{length-take-le}
+use Rattle.leadcard.proofs.Onward.{used-within, used-onward}
 use Rattle.leadcard.proofs.print_piece.Statement.{statement}
 use Rattle.leadcard.proofs.print_piece.Tie as tie
-use Rattle.leadcard.proofs.print_piece.Reads as reads
-use Rattle.leadcard.proofs.print_piece.Lts as lts
-use Rattle.cardline.proofs.next_line.Reads as next-line-reads
-use Rattle.leadcard.proofs.write_line.Reads as write-line-reads
 
 abbrev Inv-loop : tie.InvT-loop
-Inv-loop site book piece here₀ at₀ here at = ?
+Inv-loop site book piece here₀ at₀ here at = at ≤ length piece
 
 abbrev μ-loop : tie.MeasureT-loop
-μ-loop site book piece here₀ at₀ here at = ?
+μ-loop site book piece here₀ at₀ here at = length piece - at
 
--- src/main.rt:49:5
 loop-holds : tie.Need-loop-holds Inv-loop μ-loop
-loop-holds c = ?
+loop-holds c = omega arith
 
--- src/main.rt:51:58
 sub-next-line : tie.Need-sub-next-line Inv-loop μ-loop
-sub-next-line c = ?
+sub-next-line c = search needs
 
--- src/main.rt:51:58
 part-next-line-start : tie.Need-part-next-line-start Inv-loop μ-loop
-part-next-line-start c = ?
+part-next-line-start c = search needs
 
--- src/main.rt:51:58
 part-next-line-end : tie.Need-part-next-line-end Inv-loop μ-loop
-part-next-line-end c = ?
+part-next-line-end c = search needs
 
--- src/main.rt:51:13
 next-line-requires : tie.Need-next-line-requires Inv-loop μ-loop
-next-line-requires c κs = ?
+next-line-requires c κs = search needs
 
--- src/main.rt:53:14
 add-at : tie.Need-add-at Inv-loop μ-loop
-add-at c = ?
+add-at c = omega (arith, used-within _ _ _ (c .before .before .next-line .ensures .0))
 
--- src/main.rt:54:24
 array-share-prefix-line : tie.Need-array-share-prefix-line Inv-loop μ-loop
-array-share-prefix-line c = ?
+array-share-prefix-line c =
+    let read = c .before .before .next-line .ensures in
+    rw (read .0, read .1, length-append) (omega arith)
 
--- src/main.rt:54:24
 slice-aggregate-write-line : tie.Need-slice-aggregate-write-line Inv-loop μ-loop
-slice-aggregate-write-line c = ?
+slice-aggregate-write-line c = sym (length-take-le _ _ (array-share-prefix-line (c .before)))
 
--- src/main.rt:54:13
 write-line-requires : tie.Need-write-line-requires Inv-loop μ-loop
-write-line-requires c κs = ?
+write-line-requires c κs = search needs
 
--- src/main.rt:55:13
 returns : tie.Need-returns Inv-loop μ-loop
-returns c = ?
+returns c = search needs
 
--- src/main.rt:49:5
 loop-less : tie.Need-loop-less Inv-loop μ-loop
-loop-less c = ?
+loop-less c =
+    let read = c .before .before .before .before .before .next-line .ensures .0 in
+    omega (arith, used-onward _ _ _ read (omega arith))
 
--- src/main.rt:49:5
 loop-again : tie.Need-loop-again Inv-loop μ-loop
-loop-again c = ?
+loop-again c = omega (arith, used-within _ _ _ (c .before .before .before .before .before .next-line .ensures .0))
 
--- src/main.rt:46:1
 returns-2 : tie.Need-returns-2 Inv-loop μ-loop
-returns-2 c = ?
+returns-2 c = search needs
 
 pub print-piece-spec : {M : Type 1} → statement M
 print-piece-spec =

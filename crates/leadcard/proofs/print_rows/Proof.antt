@@ -1,0 +1,62 @@
+-- `leadcard::print_rows` is safe and ends: the measure is the number of pieces left to count.
+-- Assumes nothing.
+use borrow.Author.Needs.{needs}
+use Rattle.leadcard.proofs.print_rows.Statement.{statement}
+use Rattle.leadcard.proofs.print_rows.Tie as tie
+
+abbrev Inv-loop : tie.InvT-loop
+Inv-loop site book file reader₀ pieces₀ reader pieces = Unit {0}
+
+abbrev μ-loop : tie.MeasureT-loop
+μ-loop site book file reader₀ pieces₀ reader pieces = pieces
+
+start-requires : tie.Need-start-requires Inv-loop μ-loop
+start-requires c κs = search needs
+
+loop-holds : tie.Need-loop-holds Inv-loop μ-loop
+loop-holds c = search needs
+
+print-next-piece-requires : tie.Need-print-next-piece-requires Inv-loop μ-loop
+print-next-piece-requires c κs = search needs
+
+returns : tie.Need-returns Inv-loop μ-loop
+returns c = search needs
+
+sub-pieces : tie.Need-sub-pieces Inv-loop μ-loop
+sub-pieces c = search needs
+
+loop-less : tie.Need-loop-less Inv-loop μ-loop
+loop-less c = search needs
+
+loop-again : tie.Need-loop-again Inv-loop μ-loop
+loop-again c = search needs
+
+loop-less-2 : tie.Need-loop-less-2 Inv-loop μ-loop
+loop-less-2 c = search needs
+
+loop-again-2 : tie.Need-loop-again-2 Inv-loop μ-loop
+loop-again-2 c = search needs
+
+print-last-requires : tie.Need-print-last-requires Inv-loop μ-loop
+print-last-requires c κs = search needs
+
+returns-2 : tie.Need-returns-2 Inv-loop μ-loop
+returns-2 c = search needs
+
+pub print-rows-spec : {M : Type 1} → statement M
+print-rows-spec =
+    tie.close
+    (tie.spec
+    Inv-loop
+    μ-loop
+    start-requires
+    loop-holds
+    print-next-piece-requires
+    returns
+    sub-pieces
+    loop-less
+    loop-again
+    loop-less-2
+    loop-again-2
+    print-last-requires
+    returns-2)
