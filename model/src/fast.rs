@@ -5,6 +5,10 @@
 //! Why 64 bits hold: Mi × D and n × D are at most 5×10^10 × 10^8 = 5×10^18, and
 //! since bi/Ei ≤ 1/2, d ≥ D + ai/2, so Mi × D + ai × p ≤ 10^19.
 
+mod card;
+
+pub use card::card_row;
+
 use crate::block::{BLOCK_BYTES, BODY_BYTES, EDITION, EDITION_AT, FIELDS_AT, FIELD_BYTES, NUMBER_AT};
 use crate::book::{self, column, RowFields, BLOCK_ROWS, BOOK_BYTES, BOOK_ROWS, ROW_FIELDS};
 use crate::engine::{BirthAnswer, MonthAnswer, RunAnswer};

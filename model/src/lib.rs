@@ -1,5 +1,5 @@
 //! An independent model of the counter box's engine, written from document 01
-//! ("The counter box: IEUBK in whole numbers"), request 1 of document 02 and the
+//! ("The counter box: IEUBK in whole numbers"), requests 1 and 2 of document 02 and the
 //! agency's papers alone.
 //!
 //! The model is made to be read beside the paper, not to be fast: every sum is
@@ -12,6 +12,7 @@
 pub mod big;
 pub mod block;
 pub mod book;
+pub mod card;
 pub mod cards;
 pub mod console;
 pub mod demand3;

@@ -1,9 +1,11 @@
-//! Random sites and books, the same in every run; `foods` has random foods blocks, `damage` faults, `states` random states.
+//! Random sites and books, the same in every run; `foods` has random foods blocks, `survey` rows of batch cards, `damage` faults,
+//! `states` random states.
 
 mod damage;
 mod foods;
 mod generator;
 mod states;
+mod survey;
 
 pub use damage::{
     break_intake, break_row, damaged, damaged_with_foods, fault, fault_with_foods, file_faults, row_faults,
@@ -12,6 +14,10 @@ pub use damage::{
 pub use foods::{all_eaten, break_diet, eat_alone, foods, foods_fault, foods_faults, Eaten, FoodsFault};
 pub use generator::Generator;
 pub use states::{any_numbers, any_state, burdened, no_state, state};
+pub use survey::{
+    any_row, break_texts, field_texts, joined, over, scratched, survey, survey_row, text_fault, text_faults,
+    FieldTexts, TextFault, AGES_OUTSIDE, NO_FIGURES,
+};
 
 use crate::book::{column, RowFields, BOOK_ROWS, ROW_FIELDS};
 use crate::cards::{self, curves, published};

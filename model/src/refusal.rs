@@ -1,4 +1,4 @@
-//! The refusal numbers of document 01, "Calls and refusal numbers", and of request 1.
+//! The refusal numbers of document 01, "Calls and refusal numbers", and of requests 1 and 2.
 
 use std::fmt;
 
@@ -27,6 +27,8 @@ pub enum Refusal {
     FoodShares = 10,
     /// An amount of a food is over 10,000, or a lead over 1,000,000.
     FoodLimits = 11,
+    /// A card row has not twelve fields, or one that is over 8 bytes or no figure where one is due.
+    CardRow = 12,
     /// What was handed in is no state.
     NoState = 20,
     /// The state's month is 84 already.
@@ -59,6 +61,7 @@ impl fmt::Display for Refusal {
             Refusal::Intake => "an intake of air, water, soil, dust or foods is over its limit",
             Refusal::FoodShares => "fish and game together, or home-grown vegetable or fruit, are over 100 %",
             Refusal::FoodLimits => "an amount of a food, or the lead in it, is over its limit",
+            Refusal::CardRow => "a row has not twelve fields, or one that is too long or no figure",
             Refusal::NoState => "what was handed in is no state",
             Refusal::LastMonth => "the state's month is 84 already",
             Refusal::Burden => "the lead in the body is over its limit",

@@ -1,0 +1,97 @@
+//! A row of a batch card in quick Rust: the files are read anew for each row.
+
+use super::{newborn, read, step_month, Card, Fields};
+use crate::card::{field, Form, RowCall, CARD_FIELDS, FIELD_MOST, FORMS, GOES};
+use crate::refusal::{Refusal, ACCEPTED};
+use crate::site::place;
+use crate::state::MONTHS;
+
+/// A field in thousandths of its unit; a gap is none.
+type Values = [Option<u32>; CARD_FIELDS];
+
+/// A figure in thousandths; eight digits of them do not fit 32 bits, and are then the largest number.
+fn figure(text: &[u8], form: Form) -> Result<u32, Refusal> {
+    let (mut value, mut digits, mut decimals) = (0u64, 0, None);
+    for &byte in text {
+        match byte {
+            b'0'..=b'9' => {
+                value = 10 * value + u64::from(byte - b'0');
+                digits += 1;
+                decimals = decimals.map(|count: u32| count + 1);
+            }
+            b'.' if digits > 0 && decimals.is_none() && form == Form::Figure => decimals = Some(0),
+            _ => return Err(Refusal::CardRow),
+        }
+    }
+    match decimals {
+        Some(0) => return Err(Refusal::CardRow),
+        Some(count @ 1..=3) => value *= 10u64.pow(3 - count),
+        Some(_) => return Err(Refusal::CardRow),
+        None => value *= 1_000,
+    }
+    Ok(value.min(u32::MAX.into()) as u32)
+}
+
+/// The fields of a row, or refusal 12.
+fn read_row(row: &[u8]) -> Result<Values, Refusal> {
+    let mut values = [None; CARD_FIELDS];
+    let mut count = 0;
+    for text in row.split(|&byte| byte == b' ').filter(|text| !text.is_empty()) {
+        if count == CARD_FIELDS || text.len() > FIELD_MOST {
+            return Err(Refusal::CardRow);
+        }
+        if count != field::ID && text != b"*" {
+            values[count] = Some(figure(text, FORMS[count])?);
+        }
+        count += 1;
+    }
+    if count == CARD_FIELDS {
+        Ok(values)
+    } else {
+        Err(Refusal::CardRow)
+    }
+}
+
+/// The row's figures put over the fields; refusal 7 if one is over its limit.
+fn put(values: &Values, fields: &mut Fields) -> Result<(), Refusal> {
+    (fields[place::DUST_MODE], fields[place::WATER_MODE]) = (0, 0);
+    for goes in GOES {
+        let copied = match goes.from {
+            field::SOIL => values[field::DUST],
+            field::DUST => values[field::SOIL],
+            _ => None,
+        };
+        let Some(thousandths) = values[goes.from].or(copied) else { continue };
+        let value = u64::from(thousandths) * goes.factor as u64 / 1_000;
+        if value > super::SITE_MOST[goes.to].into() {
+            return Err(Refusal::SiteLimits);
+        }
+        fields[goes.to..goes.to + goes.count].fill(value as u32);
+    }
+    Ok(())
+}
+
+/// Blood at AGE, nothing for a skipped row.
+fn answer(site: &[u8], foods: Option<&[u8]>, book: &[u8], row: &[u8]) -> Result<Option<u32>, Refusal> {
+    let Card { mut fields, diets, rows } = read(site, foods, book, MONTHS)?;
+    let values = read_row(row)?;
+    let age = values[field::AGE].unwrap_or(0) / 1_000;
+    if age < 1 || age > MONTHS as u32 || (values[field::SOIL].is_none() && values[field::DUST].is_none()) {
+        return Ok(None);
+    }
+    put(&values, &mut fields)?;
+    let (mut state, mut blood) = (newborn(&fields, &rows)?, 0);
+    for _ in 0..age {
+        (state, blood) = step_month(&fields, &diets, &rows, state)?;
+    }
+    Ok(Some(blood))
+}
+
+/// The call of one row.
+pub fn card_row(site: &[u8], foods: Option<&[u8]>, book: &[u8], row: &[u8]) -> RowCall {
+    match answer(site, foods, book, row) {
+        Ok(Some(blood)) => RowCall { number: ACCEPTED, blood, skipped: false },
+        Ok(None) => RowCall { number: ACCEPTED, blood: 0, skipped: true },
+        Err(refusal) => RowCall { number: refusal.number(), blood: 0, skipped: false },
+    }
+}
