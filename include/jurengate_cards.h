@@ -1,0 +1,104 @@
+/* Jurengate: the rows of a batch card, the text of a community survey. Link libjurengate_cards.a, alone or beside libjurengate.a.
+ *
+ * A site file, a rate book and one row of the text go in; the blood lead of that row's child at its age comes out. The row's
+ * figures take the place of the site file's at all ages; what the row leaves out is the site file's own. docs/FORMAT.md has the
+ * text and the files; the names of refusals and the sizes of files are those of jurengate.h, which this header includes. Blood
+ * lead is in thousandths of ug/dL. C99, and C++ from C++11 on.
+ *
+ * THE TEXT. JURENGATE_CARD_HEADINGS heading lines of any content, then rows. A row ends at a line feed (byte 10) or at the end of
+ * the text; nothing after the last line feed is no row. The caller cuts the text: a row is handed in without its line feed, and
+ * one that is handed in is a byte like the others. A row is JURENGATE_CARD_FIELDS fields of at most JURENGATE_CARD_FIELD_BYTES
+ * bytes each, parted by spaces (byte 32) alone; a tab or a carriage return belongs to a field. There may be any number of spaces,
+ * before the first field and behind the last too, so that a row may have any length.
+ *
+ * A figure is digits, then at most a point and one to three digits; a whole figure has no point. No sign, no comma, no `.5`, no
+ * `5.`. An asterisk alone stands for a missing figure, in any field but ID, where it is text.
+ *
+ * CALL. Nothing has to be checked before the call: it takes bytes of any length and content, and answers JURENGATE_ACCEPTED or the
+ * first refusal that holds. They are tried in this order:
+ *
+ *   the files     1 of site file or book, the site file's 3 to 7, with foods the block's 1, 3 to 6, 10 and 11, the book's 3 to 6
+ *                 and 8
+ *   the text      12: not twelve fields, a field over 8 bytes, or no figure where one is due
+ *   skipped       AGE missing or outside 1 to 84, or SOIL and DUST both missing: accepted, without a blood figure
+ *   the figures   7: one of the row's own over its limit
+ *   the child     birth's 22, then 9 and 22 month by month up to AGE; what a later month would be refused with does not matter
+ *
+ * THE CHILD has the site file's figures, changed so. Soil, dust, air and alternate lead are the row's at all seven ages; constant
+ * water and the absorptions of soil and dust are the row's. Dust mode and water mode are 0, whatever the site file says and even
+ * if the row has no figure there. If one of SOIL and DUST is missing, it is the other's figure. If WATER, AIR, OTHER, ABSSOIL or
+ * ABSDUST is missing, the site file's own stays, age by age. FAM, BLOCK and PBB must be figures or asterisks, and change nothing.
+ *
+ * MEMORY. No pointer may be null, not even that of an empty file or row, or of foods that are not there: with length 0 it may be
+ * any other address that its type allows, and nothing is read there. Bytes may lie anywhere; *blood must be aligned as its type
+ * is. blood and skipped may not overlap each other or anything else that is handed in; files and row are only read, and may.
+ * Nothing outside the lent memory is written. The call keeps nothing, uses no heap and has no static data, so that calls with
+ * memory of their own may run at the same time, in threads or interrupts; they may share their files.
+ *
+ * STACK. The call stays within its JURENGATE_STACK_ bytes: that is tested, not proved. They are what was measured
+ * (docs/MEASURED.md) and a tenth of it. The call returns, and does not call back.
+ *
+ * LINKING. The library needs memcpy and memset from the C library, and nothing else; beside libjurengate.a it may stand before or
+ * behind it. It is x86-64 Linux object code today; the stack figure is of it.
+ */
+#ifndef JURENGATE_CARDS_H
+#define JURENGATE_CARDS_H
+
+#include <stdbool.h>
+#include <stddef.h>
+#include <stdint.h>
+
+#include "jurengate.h"
+
+/* The version of this interface; its parts rise as those of jurengate.h do. */
+#define JURENGATE_CARDS_VERSION_MAJOR 0
+#define JURENGATE_CARDS_VERSION_MINOR 1
+#define JURENGATE_CARDS_VERSION_PATCH 0
+
+/* The text. */
+#define JURENGATE_CARD_HEADINGS 3    /* lines before the first row */
+#define JURENGATE_CARD_FIELDS 12     /* fields of a row */
+#define JURENGATE_CARD_FIELD_BYTES 8 /* the longest field, ID too */
+
+/* Bytes of stack that suffice for the call, memcpy and memset included. */
+#define JURENGATE_STACK_CARD_ROW STACK_TO_MEASURE
+
+/* What the call answers beside the refusals of jurengate.h. JURENGATE_FIELD_OUTSIDE_LIMITS is the site file's, or a figure of the
+ * row over the limit that stands below. */
+enum jurengate_card_refusal {
+    JURENGATE_CARD_TEXT_WRONG = 12 /* not twelve fields, a field over 8 bytes, or no figure where one is due */
+};
+
+/* Places of a row's fields. */
+enum jurengate_card_place {
+    JURENGATE_CARD_ID = 0,       /* any text without a space */
+    JURENGATE_CARD_FAM = 1,      /* family; changes nothing */
+    JURENGATE_CARD_BLOCK = 2,    /* neighbourhood; changes nothing */
+    JURENGATE_CARD_AGE = 3,      /* months, whole; skipped outside 1 to 84 */
+    JURENGATE_CARD_SOIL = 4,     /* lead in soil, ug/g; at most 50,000 */
+    JURENGATE_CARD_DUST = 5,     /* lead in house dust, ug/g; at most 50,000 */
+    JURENGATE_CARD_WATER = 6,    /* lead in water, ug/L; at most 10,000 */
+    JURENGATE_CARD_AIR = 7,      /* lead in outdoor air, ug/m3; at most 100 */
+    JURENGATE_CARD_OTHER = 8,    /* lead eaten otherwise, ug a day; at most 1,000 */
+    JURENGATE_CARD_PBB = 9,      /* blood lead as it was measured; changes nothing */
+    JURENGATE_CARD_ABSSOIL = 10, /* of soil lead absorbed, %, whole; at most 100 */
+    JURENGATE_CARD_ABSDUST = 11  /* of dust lead absorbed, %, whole; at most 100 */
+};
+
+#ifdef __cplusplus
+extern "C" {
+#endif
+
+/* One row of a card over a site file, a rate book and, if has_foods, a foods block, whose diet takes the place of the site file's;
+ * without has_foods its bytes are not looked at, and with it an empty one has a wrong length (1). An accepted row gives its blood
+ * at AGE and skipped false; a skipped one answers JURENGATE_ACCEPTED with blood 0 and skipped true; a refused one (1, 3 to 12, 22)
+ * leaves blood 0 and skipped false. What blood and skipped held before does not matter. */
+uint32_t jurengate_card_row(const uint8_t *site, size_t site_len, bool has_foods, const uint8_t *foods, size_t foods_len,
+                            const uint8_t *book, size_t book_len, const uint8_t *row, size_t row_len,
+                            uint32_t *blood, bool *skipped);
+
+#ifdef __cplusplus
+}
+#endif
+
+#endif
