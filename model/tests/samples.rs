@@ -8,6 +8,7 @@ mod repository;
 mod samples;
 
 use foods_printout::foods_printout;
+use jurengate_model::card::{card_printout, fields, rows};
 use jurengate_model::cards::{self, curves};
 use jurengate_model::figures::read;
 use jurengate_model::printout::printout;
@@ -51,6 +52,34 @@ fn the_printout_with_foods_is_the_model_s() {
     assert_eq!((highest(&due), highest(&text(file("printout.txt")))), (6.1, 5.6));
 }
 
+/// What the rows of the survey answer, by their ID; one of them, C8, ends in a carriage return.
+#[test]
+fn the_survey_shows_what_it_says() {
+    let sample = repository::at("samples/survey");
+    let [site, book, card] = ["site.lkb", "book.lkb", "card.txt"].map(|file| stored(&sample, file));
+    let printed = text(stored(&sample, "cardout.txt"));
+    assert_eq!(printed, text(card_printout(&site, &book, &card)));
+    let ids = rows(&card).into_iter().map(|row| text(fields(row)[0].to_vec()));
+    let answers: Vec<(String, &str)> = ids.zip(printed.lines()).collect();
+    let of =
+        |id: &str| answers.iter().find(|answer| answer.0 == id).unwrap_or_else(|| panic!("no row {id}")).1;
+    let pairs = [("A1", "A2"), ("A3", "A4"), ("A5", "A6")];
+    assert!(pairs.iter().all(|(one, other)| of(one) == of(other)), "{printed}");
+    let due = [
+        (&["B3", "B4", "B5", "B6"][..], "---"),
+        (&["C1"], "refused 7"),
+        (&["C2"], "refused 9"),
+        (&["C4", "C5", "C6", "MILL-LANE", "C8"], "refused 12"),
+        (&["C3"], "refused 22"),
+    ];
+    for (ids, answer) in due {
+        let there: Vec<&String> = answers.iter().filter(|row| row.1 == answer).map(|row| &row.0).collect();
+        assert_eq!(there, ids, "{answer}");
+    }
+    assert!(rows(&card).iter().any(|row| row.starts_with(b"C8 ") && row.ends_with(b"\r")));
+    assert_eq!((answers.len(), of("C9")), (23, "31.3"));
+}
+
 /// The card that the program's own check runs on is the default sample.
 #[test]
 fn the_program_s_card_is_the_default_sample() {
@@ -70,6 +99,7 @@ fn the_samples_do_what_they_say() {
         ("heavy", 84, 50, "84 21.1 -"),
         ("refused-burden", 27, 2, "refused 22 after 26"),
         ("refused-intake", 49, 0, "refused 9 after 48"),
+        ("survey", 84, 0, "84 3.2 -"),
     ];
     let samples = folders();
     assert_eq!(samples.len(), due.len());
