@@ -11,6 +11,7 @@ use jurengate_model::block::{
     check_of, field, word16, word32, BLOCK_BYTES, BODY_BYTES, FIELDS_AT, FIELD_BYTES,
 };
 use jurengate_model::book::{self, column, Row, RowFields, BLOCK_FIELDS, BLOCK_ROWS, ROW_FIELDS};
+use jurengate_model::card::{self, card_row, Form, CARD_FIELDS, FORMS, GOES};
 use jurengate_model::cards::{block_of, curves, foods_file, published};
 use jurengate_model::figures::KEYS;
 use jurengate_model::foods::{self, Foods, FOODS_FIGURES, FOODS_NUMBER};
@@ -296,17 +297,87 @@ fn the_refusals_are_the_models() {
         Refusal::Intake,
         Refusal::FoodShares,
         Refusal::FoodLimits,
+        Refusal::CardRow,
         Refusal::NoState,
         Refusal::LastMonth,
         Refusal::Burden,
     ];
     let due = [vec![ACCEPTED], due.map(Refusal::number).to_vec()].concat();
-    let header = fs::read_to_string(repository::at("include/jurengate.h")).expect("the header");
-    let rows = table(&format(), &["number", "name in `jurengate.h`", "why"]);
+    let header = |file: &str| fs::read_to_string(repository::at(file)).expect("the header");
+    let (cards, others) = (header("include/jurengate_cards.h"), header("include/jurengate.h"));
+    let rows = table(&format(), &["number", "name in C", "why"]);
     assert_eq!(rows.iter().map(|cells| count(&cells[0])).collect::<Vec<_>>(), due);
     for cells in rows {
         let line = format!("\n    {} = {}", cells[1].trim_matches('`'), cells[0]);
+        let header = if count(&cells[0]) == Refusal::CardRow.number() { &cards } else { &others };
         let behind = header.split_once(&line).map(|(_, rest)| rest.chars().next());
         assert!(matches!(behind, Some(Some(',' | ' '))), "{line}");
+    }
+}
+
+/// The names of a row's fields, each at its place.
+const CARD_NAMES: [(&str, usize); CARD_FIELDS] = [
+    ("ID", card::field::ID),
+    ("FAM", card::field::FAM),
+    ("BLOCK", card::field::BLOCK),
+    ("AGE", card::field::AGE),
+    ("SOIL", card::field::SOIL),
+    ("DUST", card::field::DUST),
+    ("WATER", card::field::WATER),
+    ("AIR", card::field::AIR),
+    ("OTHER", card::field::OTHER),
+    ("PBB", card::field::PBB),
+    ("ABSSOIL", card::field::ABSSOIL),
+    ("ABSDUST", card::field::ABSDUST),
+];
+
+/// A limit in the row's unit, times the factor, is that of the site field.
+#[test]
+fn the_fields_of_a_card_s_row_are_the_models() {
+    let head = ["field", "name", "form", "unit", "factor", "most", "site fields", "an asterisk in it"];
+    let rows = table(&format(), &head);
+    assert_eq!(rows.len(), CARD_FIELDS);
+    for (cells, (place, (name, field))) in rows.iter().zip(CARD_NAMES.iter().enumerate()) {
+        assert_eq!((count(&cells[0]) as usize, place), (*field, *field), "{name}");
+        assert_eq!(cells[1], format!("`{name}`"));
+        let form = match FORMS[place] {
+            Form::Text => "text",
+            Form::Figure => "figure",
+            Form::Whole => "whole",
+        };
+        assert_eq!(cells[2], form, "{name}");
+        match GOES.iter().find(|goes| goes.from == place) {
+            None => assert!(cells[4..7].iter().all(String::is_empty), "{name}"),
+            Some(goes) => {
+                let factor = count(&cells[4]);
+                assert_eq!(u128::from(factor), goes.factor, "{name}");
+                assert_eq!(factor * count(&cells[5]), site::most(goes.to), "{name}");
+                assert_eq!(ends(&cells[6]), (goes.to, goes.to + goes.count - 1), "{name}");
+            }
+        }
+    }
+}
+
+/// Each text in its field of the page's row, over the published site.
+#[test]
+fn the_texts_of_a_card_s_fields_are_answered_as_the_page_says() {
+    let page = format();
+    let (_, behind) = page.split_once("and the row `").expect("the page's row");
+    let (whole, _) = behind.split_once('`').expect("the row's end");
+    let (site, book) = (published::site(), curves::book());
+    let answer = |row: &str| match card_row(&site, None, &book, row.as_bytes()) {
+        call if call.skipped => "skipped".to_string(),
+        call if call.number == ACCEPTED => "blood".to_string(),
+        call => call.number.to_string(),
+    };
+    assert_eq!(answer(whole), "blood");
+    let rows = table(&page, &["field", "text", "answer", "why"]);
+    assert_eq!(rows.len(), 30);
+    for cells in rows {
+        let name = cells[0].trim_matches('`');
+        let (_, place) = CARD_NAMES.iter().find(|field| field.0 == name).expect("a field of a row");
+        let mut fields: Vec<&str> = whole.split(' ').collect();
+        fields[*place] = cells[1].trim_matches('`');
+        assert_eq!(answer(&fields.join(" ")), cells[2], "{cells:?}");
     }
 }
