@@ -1,16 +1,16 @@
-//! Points the linker at the engine's static library when the feature `engine` is on, and says how to build it
-//! if it is missing.
+//! Points the linker at the engine's static libraries when the feature `engine` is on, and says how to build one
+//! that is missing.
 
 use std::env;
 use std::path::PathBuf;
 
-/// Where the engine's build leaves its static library, from this package's folder.
+/// Where the engine's build leaves its static libraries, from this package's folder.
 const ENGINE_FOLDER: &str = "../target/staticlib";
 
-/// The library's file.
-const ENGINE_LIBRARY: &str = "libjurengate.a";
+/// The libraries: the engine's calls, and the rows of batch cards. Each has its own calls as its only public symbols.
+const ENGINE_LIBRARIES: [&str; 2] = ["jurengate", "jurengate_cards"];
 
-/// Names another folder to take the library from.
+/// Names another folder to take the libraries from.
 const FOLDER_VARIABLE: &str = "JURENGATE_LIB_DIR";
 
 fn main() {
@@ -20,15 +20,17 @@ fn main() {
         return;
     }
     let folder = engine_folder();
-    let library = folder.join(ENGINE_LIBRARY);
-    println!("cargo:rerun-if-changed={}", library.display());
-    if !library.is_file() {
-        let how = format!("build it with `rt staticlib jurengate`, or name its folder in {FOLDER_VARIABLE}");
-        println!("cargo::error=the engine's library {} is missing: {how}", library.display());
-        return;
-    }
     println!("cargo:rustc-link-search=native={}", folder.display());
-    println!("cargo:rustc-link-lib=static=jurengate");
+    for name in ENGINE_LIBRARIES {
+        let library = folder.join(format!("lib{name}.a"));
+        println!("cargo:rerun-if-changed={}", library.display());
+        if library.is_file() {
+            println!("cargo:rustc-link-lib=static={name}");
+        } else {
+            let how = format!("build it with `rt staticlib {name}`, or name its folder in {FOLDER_VARIABLE}");
+            println!("cargo::error=the engine's library {} is missing: {how}", library.display());
+        }
+    }
 }
 
 fn engine_folder() -> PathBuf {

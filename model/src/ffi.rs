@@ -1,9 +1,10 @@
-//! The engine's C interface in safe Rust. Every place that the engine is to fill
+//! The engine's C interface, of both its libraries, in safe Rust. Every place that the engine is to fill
 //! holds a filler before the call, so that what it leaves out shows.
 
 #![allow(unsafe_code)]
 
 use crate::book::{Table, BOOK_ROWS, ROW_FIELDS};
+use crate::card::RowCall;
 use crate::engine::{BirthAnswer, MonthAnswer, RunAnswer};
 use crate::foods::FOODS_FIGURES;
 use crate::site::SITE_FIELDS;
@@ -13,6 +14,8 @@ use crate::state::State;
 const FILLER: u32 = 0xA5A5_5A5A;
 /// What 64-bit places hold before a call.
 const WIDE_FILLER: u64 = 0xA5A5_5A5A_C3C3_3C3C;
+/// What the place of a bool holds before a call: neither of the two.
+const BOOL_FILLER: u8 = 0xA5;
 
 extern "C" {
     fn jurengate_read_site(site: *const u8, site_len: usize, fields: *mut u32) -> u32;
@@ -74,6 +77,20 @@ extern "C" {
         blood_len: usize,
         state: *mut u64,
         months: *mut u32,
+    ) -> u32;
+    // Of the second library, that of batch cards.
+    fn jurengate_card_row(
+        site: *const u8,
+        site_len: usize,
+        has_foods: bool,
+        foods: *const u8,
+        foods_len: usize,
+        book: *const u8,
+        book_len: usize,
+        row: *const u8,
+        row_len: usize,
+        blood: *mut u32,
+        skipped: *mut u8,
     ) -> u32;
 }
 
@@ -215,4 +232,32 @@ pub fn run_foods(site: &[u8], foods: Option<&[u8]>, book: &[u8], blood: &mut [u3
         )
     };
     RunAnswer { number, state: State::from_numbers(state), months }
+}
+
+/// The engine's call of one row of a batch card, with a foods block if there is one.
+pub fn card_row(site: &[u8], foods: Option<&[u8]>, book: &[u8], row: &[u8]) -> RowCall {
+    card_row_beside(site, foods.is_some(), foods.unwrap_or_default(), book, row)
+}
+
+/// The same call with the bytes of a foods block at hand, whether it has one or not.
+pub fn card_row_beside(site: &[u8], has_foods: bool, foods: &[u8], book: &[u8], row: &[u8]) -> RowCall {
+    let (mut blood, mut skipped) = (FILLER, BOOL_FILLER);
+    // SAFETY: the pointers span the four slices, one figure and one byte, which is what a C bool takes.
+    let number = unsafe {
+        jurengate_card_row(
+            site.as_ptr(),
+            site.len(),
+            has_foods,
+            foods.as_ptr(),
+            foods.len(),
+            book.as_ptr(),
+            book.len(),
+            row.as_ptr(),
+            row.len(),
+            &mut blood,
+            &mut skipped,
+        )
+    };
+    assert!(skipped <= 1, "the engine left {skipped:#x} for a bool");
+    RowCall { number, blood, skipped: skipped == 1 }
 }

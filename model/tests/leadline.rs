@@ -2,6 +2,8 @@
 
 #[path = "support/folder.rs"]
 mod folder;
+#[path = "support/program.rs"]
+mod program;
 #[path = "support/repository.rs"]
 mod repository;
 #[path = "support/samples.rs"]
@@ -13,29 +15,10 @@ use jurengate_model::cards::{book_file, curves, published, site_file};
 use jurengate_model::printout::printout;
 use jurengate_model::random::{book, damaged, fault, range, row_faults, site, Fault, Generator, Intake};
 use jurengate_model::site::{place, SATURATION_LEAST, SITE_FIELDS};
-use std::fs::{self, OpenOptions};
-use std::io::Write;
-use std::path::{Path, PathBuf};
-use std::process::{Command, Output};
-use std::thread::{self, JoinHandle};
-use std::time::Duration;
+use program::{pipe, Program};
+use std::fs;
 
-/// Where the gate leaves the program.
-fn built() -> PathBuf {
-    repository::at("target/bin/leadline").canonicalize().expect("rt check leadline has built the program")
-}
-
-fn leadline() -> Command {
-    Command::new(built())
-}
-
-/// What the program prints in a folder.
-fn printed(folder: &Path) -> Vec<u8> {
-    let output = leadline().current_dir(folder).output().expect("the program runs");
-    assert!(output.status.success());
-    assert!(output.stderr.is_empty(), "{}", String::from_utf8_lossy(&output.stderr));
-    output.stdout
-}
+const LEADLINE: Program = Program("leadline");
 
 /// A folder with the files that are there.
 fn card(name: &str, site: Option<&[u8]>, book: Option<&[u8]>) -> Folder {
@@ -49,10 +32,9 @@ fn card(name: &str, site: Option<&[u8]>, book: Option<&[u8]>) -> Folder {
 /// Runs the program on two files, of which one may be missing, and compares.
 fn compare(name: &str, site: Option<&[u8]>, book: Option<&[u8]>) -> Vec<u8> {
     let folder = card(name, site, book);
-    let bytes = printed(folder.path());
-    let expected = printout(site.unwrap_or(&[]), book.unwrap_or(&[]));
-    assert_eq!(String::from_utf8_lossy(&bytes), String::from_utf8_lossy(&expected), "{name}");
-    bytes
+    let due = printout(site.unwrap_or(&[]), book.unwrap_or(&[]));
+    LEADLINE.compare(folder.path(), &due, name);
+    due
 }
 
 fn last_line(bytes: &[u8]) -> String {
@@ -81,40 +63,21 @@ fn files_that_cannot_be_read_count_as_empty() {
     let folder = Folder::new("folders");
     fs::create_dir(folder.path().join("site.lkb")).expect("a folder by the site file's name");
     fs::create_dir(folder.path().join("book.lkb")).expect("a folder by the book's name");
-    assert_eq!(printed(folder.path()), b"refused 1 after 0\n");
+    assert_eq!(LEADLINE.printed(folder.path()), b"refused 1 after 0\n");
 }
 
-/// If standard output takes nothing, the program says so once and ends by itself.
 #[test]
 fn a_full_device_is_told_on_standard_error() {
     let (site, book) = (published::site(), curves::book());
     for (name, book) in [("full-84", Some(book.as_slice())), ("full-1", None)] {
-        let folder = card(name, Some(&site), book);
-        let full = OpenOptions::new().write(true).open("/dev/full").expect("a device that is full");
-        let output = leadline().current_dir(folder.path()).stdout(full).output().expect("the program runs");
-        assert!(output.status.code().is_some(), "ended by a signal: {}", output.status);
-        assert_eq!(String::from_utf8_lossy(&output.stderr), "leadline: No space left on device\n");
+        LEADLINE.meets_a_full_device(card(name, Some(&site), book).path());
     }
 }
 
-/// Runs the program in a folder, its standard files changed as a shell writes it: `<&-` closes standard input.
-fn redirected(folder: &Path, redirections: &str) -> Output {
-    let mut shell = Command::new("sh");
-    shell.args(["-c", &format!("exec \"$0\" {redirections}")]).arg(built()).current_dir(folder);
-    shell.output().expect("the shell runs")
-}
-
-/// A closed standard output is told as a full device is, and standard error, closed too, stops nothing.
 #[test]
 fn a_closed_standard_output_is_told_on_standard_error() {
     let folder = card("closed-output", Some(&published::site()), Some(&curves::book()));
-    let reason = "leadline: Bad file descriptor\n";
-    for (redirections, told) in [(">&-", reason), (">&- 2>&-", ""), ("<&- >&- 2>&-", "")] {
-        let output = redirected(folder.path(), redirections);
-        assert!(output.status.code().is_some(), "{redirections}: ended by a signal: {}", output.status);
-        assert!(output.stdout.is_empty(), "{redirections}");
-        assert_eq!(String::from_utf8_lossy(&output.stderr), told, "{redirections}");
-    }
+    LEADLINE.meets_a_closed_output(folder.path());
 }
 
 /// If standard input is closed, a file is opened as descriptor 0, and read as any other.
@@ -123,25 +86,11 @@ fn a_closed_standard_input_changes_nothing() {
     let (site, book) = (published::site(), curves::book());
     for (name, book) in [("closed-input", book.as_slice()), ("closed-input-short", &book[..8703])] {
         let folder = card(name, Some(&site), Some(book));
-        let output = redirected(folder.path(), "<&-");
+        let output = LEADLINE.redirected(folder.path(), "<&-");
         assert!(output.status.success() && output.stderr.is_empty(), "{name}: {output:?}");
         let expected = printout(&site, book);
         assert_eq!(String::from_utf8_lossy(&output.stdout), String::from_utf8_lossy(&expected), "{name}");
     }
-}
-
-/// Makes a named pipe, and writes bytes into it in two parts: the pause ends the first read after the first part.
-fn pipe(folder: &Folder, file: &str, bytes: &[u8], first: usize) -> JoinHandle<()> {
-    let path = folder.path().join(file);
-    let made = Command::new("mkfifo").arg(&path).status().expect("mkfifo runs");
-    assert!(made.success(), "{file} is made");
-    let bytes = bytes.to_vec();
-    thread::spawn(move || {
-        let mut pipe = OpenOptions::new().write(true).open(path).expect("the pipe has a reader");
-        pipe.write_all(&bytes[..first]).expect("the first part is taken");
-        thread::sleep(Duration::from_millis(200));
-        pipe.write_all(&bytes[first..]).expect("the second part is taken");
-    })
 }
 
 /// A file that comes in parts is read to its end, and a part of the right length is not yet a file of the right length.
@@ -158,9 +107,9 @@ fn files_that_come_through_a_pipe_in_two_parts() {
         let folder = Folder::new(name);
         let site_writer = pipe(&folder, "site.lkb", &site, site_first);
         let book_writer = pipe(&folder, "book.lkb", book, book_first);
-        let (bytes, expected) = (printed(folder.path()), printout(&site, book));
-        assert_eq!(String::from_utf8_lossy(&bytes), String::from_utf8_lossy(&expected), "{name}");
-        assert_eq!(bytes.iter().filter(|byte| **byte == b'\n').count(), lines, "{name}");
+        let due = printout(&site, book);
+        LEADLINE.compare(folder.path(), &due, name);
+        assert_eq!(due.iter().filter(|byte| **byte == b'\n').count(), lines, "{name}");
         site_writer.join().expect("the site file was written whole");
         book_writer.join().expect("the book was written whole");
     }
@@ -241,6 +190,10 @@ fn random_damage() {
 #[test]
 fn the_samples_print_what_is_stored() {
     for sample in samples::folders() {
-        assert!(printed(&sample) == samples::stored(&sample, "printout.txt"), "{}", sample.display());
+        assert!(
+            LEADLINE.printed(&sample) == samples::stored(&sample, "printout.txt"),
+            "{}",
+            sample.display()
+        );
     }
 }

@@ -1,6 +1,7 @@
 //! Engine and model called on the same files, their answers compared and counted.
 
 use jurengate_model::block;
+use jurengate_model::card::{self, RowCall};
 use jurengate_model::engine::{self, BirthAnswer, MonthAnswer, RunAnswer};
 use jurengate_model::ffi;
 use jurengate_model::foods;
@@ -99,6 +100,29 @@ impl Comparison {
         model
     }
 
+    pub fn card_row(&mut self, site: &[u8], foods: Option<&[u8]>, book: &[u8], row: &[u8]) -> RowCall {
+        self.card_rows(site, foods, book, [row])[0]
+    }
+
+    /// The rows of one card, each in a call of its own; the model reads the files once.
+    pub fn card_rows<'a>(
+        &mut self,
+        site: &[u8],
+        foods: Option<&[u8]>,
+        book: &[u8],
+        rows: impl IntoIterator<Item = &'a [u8]>,
+    ) -> Vec<RowCall> {
+        let rows: Vec<&[u8]> = rows.into_iter().collect();
+        let model = card::answers(site, foods, book, rows.iter().copied());
+        let answers = rows.iter().zip(model).map(|(row, model)| {
+            let answer = ffi::card_row(site, foods, book, row);
+            assert_eq!(answer, model.into(), "{}: {:?}", self.what, String::from_utf8_lossy(row));
+            self.count(answer.number);
+            answer
+        });
+        answers.collect()
+    }
+
     /// Every call that takes files.
     pub fn all(&mut self, site: &[u8], book: &[u8], state: &State) {
         self.read_site(site);
@@ -127,6 +151,7 @@ impl Drop for Comparison {
 }
 
 /// A length that is mostly the right one.
+#[allow(dead_code)] // rows have no list
 pub fn list_length(generator: &mut Generator) -> usize {
     match generator.index(6) {
         0 => [0, 1, 42, 83, 85, 168][generator.index(6)],
