@@ -7,6 +7,7 @@
 #include <string.h>
 
 #include "jurengate.h"
+#include "jurengate_cards.h"
 
 enum { STACK_BYTES = 1 << 20, PAGE_BYTES = 4096, PAINT = 0xA5 };
 
@@ -35,6 +36,17 @@ static void month_foods(void) {
 static void run_foods(void) {
     refusal = jurengate_run_foods(site, sizeof site, foods, sizeof foods, book, sizeof book, figures, JURENGATE_MONTHS,
                                   state, &months);
+}
+
+/* A row with every figure, run to the last month, without foods and with them. */
+static void card_row(void) {
+    static const uint8_t row[] = "A1 7 8 84 200.5 150.25 4.125 0.1 1.5 3.2 30 30";
+    bool skipped = false;
+    refusal = jurengate_card_row(site, sizeof site, false, foods, 0, book, sizeof book, row, sizeof row - 1, &blood, &skipped);
+    if (refusal == JURENGATE_ACCEPTED) {
+        refusal = jurengate_card_row(site, sizeof site, true, foods, sizeof foods, book, sizeof book, row, sizeof row - 1, &blood,
+                                     &skipped);
+    }
 }
 
 static uint8_t *stack;
@@ -91,6 +103,7 @@ int main(int argc, char **argv) {
         {"read_site", read_site}, {"read_book", read_book}, {"write_block", write_block},
         {"birth", birth}, {"month", month}, {"run", run},
         {"read_foods", read_foods}, {"birth_foods", birth_foods}, {"month_foods", month_foods}, {"run_foods", run_foods},
+        {"card_row", card_row},
     };
     for (size_t i = 0; i < sizeof calls / sizeof calls[0]; i++) {
         printf("%s: %zu bytes of stack", calls[i].name, peak(calls[i].call) - thread);

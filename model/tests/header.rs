@@ -1,5 +1,5 @@
-//! `include/jurengate.h`: clean C and C++; its numbers and limits are the model's, its declarations and
-//! what it says on linking the library's.
+//! `include/jurengate.h` and `include/jurengate_cards.h`: clean C and C++; their numbers and limits are the model's, their
+//! declarations and what they say on linking the libraries'.
 
 #[path = "support/c_program.rs"]
 mod c_program;
@@ -16,27 +16,35 @@ mod stack_bounds;
 
 use folder::Folder;
 use jurengate_model::book::{self, Row};
+use jurengate_model::card::{self, GOES};
 use jurengate_model::kinetics::blood_figure;
 use jurengate_model::refusal::{Refusal, ACCEPTED};
 use jurengate_model::state::{self, compartment, COMPARTMENTS, LEDGERS, MONTHS};
 use jurengate_model::{block, foods, site, uptake};
 use limits::{are_foods_ends, are_row_ends, are_site_ends, number, BLOOD_VOLUME_MOST};
-use places::{Place, FOODS, ROW, SITE, STATE};
-use stack_bounds::STACK_BOUNDS;
+use places::{Place, CARD, FOODS, ROW, SITE, STATE};
+use stack_bounds::{CARDS_STACK_BOUNDS, STACK_BOUNDS};
 use std::collections::BTreeSet;
 use std::fs;
+use std::path::PathBuf;
 use std::process::Command;
 
 /// What every name begins with.
 const PREFIX: &str = "JURENGATE_";
-/// The include guard, which is no number.
-const GUARD: &str = "JURENGATE_H";
+/// The include guards, which are no numbers.
+const GUARDS: [&str; 2] = ["JURENGATE_H", "JURENGATE_CARDS_H"];
+/// The version of the rows' interface.
+const CARDS_VERSION: [u128; 3] = [0, 1, 0];
 
 /// A name of the header and the number that it must have.
 type Named = (String, u128);
 
 fn header() -> String {
-    fs::read_to_string(repository::at("include/jurengate.h")).expect("the header")
+    header_of("jurengate.h")
+}
+
+fn header_of(file: &str) -> String {
+    fs::read_to_string(repository::at("include").join(file)).expect("the header")
 }
 
 /// The largest blood figure: all the lead that a child can hold in the red cells of the smallest blood volume.
@@ -115,23 +123,42 @@ fn named_places(kind: &str, places: &[Place]) -> Vec<Named> {
     places.iter().map(|(name, place, _)| (place_name(kind, name), *place as u128)).collect()
 }
 
-fn stack_bounds() -> Vec<Named> {
-    STACK_BOUNDS.iter().map(|(call, bound)| (place_name("STACK", call), *bound as u128)).collect()
+fn stack_bounds(bounds: &[(&str, usize)]) -> Vec<Named> {
+    bounds.iter().map(|(call, bound)| (place_name("STACK", call), *bound as u128)).collect()
 }
 
-/// Every number that the header must name, with its value.
+fn prefixed(named: Vec<Named>) -> Vec<Named> {
+    named.into_iter().map(|(name, value)| (format!("{PREFIX}{name}"), value)).collect()
+}
+
+/// Every number that `jurengate.h` must name, with its value.
 fn all_named() -> Vec<Named> {
     let places = [("SITE", &SITE[..]), ("FOODS", &FOODS), ("ROW", &ROW), ("STATE", &STATE)];
     let places = places.map(|(kind, places)| named_places(kind, places));
-    let lists = [version(), sizes(), stack_bounds(), refusals(), places.concat()];
-    lists.concat().into_iter().map(|(name, value)| (format!("{PREFIX}{name}"), value)).collect()
+    prefixed([version(), sizes(), stack_bounds(&STACK_BOUNDS), refusals(), places.concat()].concat())
+}
+
+/// Every number that `jurengate_cards.h` must name, with its value.
+fn all_named_of_cards() -> Vec<Named> {
+    let [major, minor, patch] = CARDS_VERSION;
+    let named = [
+        ("CARDS_VERSION_MAJOR", major),
+        ("CARDS_VERSION_MINOR", minor),
+        ("CARDS_VERSION_PATCH", patch),
+        ("CARD_HEADINGS", card::HEADING_LINES as u128),
+        ("CARD_FIELDS", card::CARD_FIELDS as u128),
+        ("CARD_FIELD_BYTES", card::FIELD_MOST as u128),
+        ("CARD_TEXT_WRONG", Refusal::CardRow.number().into()),
+    ];
+    let named = named.map(|(name, value)| (name.to_string(), value)).to_vec();
+    prefixed([named, stack_bounds(&CARDS_STACK_BOUNDS), named_places("CARD", &CARD)].concat())
 }
 
 /// What the header defines: the words behind `#define`, and those before ` = `.
 fn defined(header: &str) -> BTreeSet<String> {
     let lines = header.lines().map(|line| line.trim().trim_start_matches("#define "));
     let words = lines.filter_map(|line| line.split_whitespace().next());
-    words.filter(|word| word.starts_with(PREFIX) && *word != GUARD).map(String::from).collect()
+    words.filter(|word| word.starts_with(PREFIX) && !GUARDS.contains(word)).map(String::from).collect()
 }
 
 /// The line that defines a name.
@@ -170,7 +197,10 @@ fn compile_as_c_and_cpp(name: &str, text: &str) {
 
 #[test]
 fn the_header_alone_is_clean_c_and_cpp() {
-    compile_as_c_and_cpp("header-alone", "#include \"jurengate.h\"\n#include \"jurengate.h\"\n");
+    for file in ["jurengate.h", "jurengate_cards.h"] {
+        compile_as_c_and_cpp("header-alone", &format!("#include \"{file}\"\n#include \"{file}\"\n"));
+    }
+    compile_as_c_and_cpp("both-headers", "#include \"jurengate_cards.h\"\n#include \"jurengate.h\"\n");
 }
 
 /// The ten calls as the library has them: a pointer of another type is an error in both languages.
@@ -202,6 +232,16 @@ struct calls calls = {
     compile_as_c_and_cpp("declarations", text);
 }
 
+#[test]
+fn the_declaration_of_a_row_s_call_is_that_of_the_library() {
+    let text = r#"
+#include "jurengate_cards.h"
+uint32_t (*card_row)(const uint8_t *, size_t, bool, const uint8_t *, size_t, const uint8_t *, size_t,
+                     const uint8_t *, size_t, uint32_t *, bool *) = jurengate_card_row;
+"#;
+    compile_as_c_and_cpp("declaration-of-rows", text);
+}
+
 /// Answers and places as a firmware uses them.
 #[test]
 fn the_names_are_used_without_a_warning() {
@@ -226,25 +266,28 @@ int is_over(const uint64_t state[JURENGATE_STATE_WORDS]) {
 }
 
 #[test]
-fn the_header_names_these_numbers_and_no_others() {
-    let due: BTreeSet<String> = all_named().into_iter().map(|(name, _)| name).collect();
-    assert_eq!(defined(&header()), due);
+fn the_headers_name_these_numbers_and_no_others() {
+    for (file, named) in [("jurengate.h", all_named()), ("jurengate_cards.h", all_named_of_cards())] {
+        let due: BTreeSet<String> = named.into_iter().map(|(name, _)| name).collect();
+        assert_eq!(defined(&header_of(file)), due, "{file}");
+    }
 }
 
 #[test]
 fn the_named_numbers_are_the_models() {
-    let lines = all_named()
-        .into_iter()
+    let named = [all_named(), all_named_of_cards()].concat();
+    let lines = named
+        .iter()
         .map(|(name, _)| format!("    printf(\"{name} %llu\\n\", (unsigned long long){name});\n"));
     let text = format!(
-        "#include <stdio.h>\n#include \"jurengate.h\"\nint main(void) {{\n{}    return 0;\n}}\n",
+        "#include <stdio.h>\n#include \"jurengate_cards.h\"\nint main(void) {{\n{}    return 0;\n}}\n",
         lines.collect::<String>()
     );
     let folder = Folder::new("header-numbers");
     let (source, program) = (folder.write("numbers.c", text.as_bytes()), folder.path().join("numbers"));
     c_program::build_at(&source, &[], &program);
     let output = Command::new(&program).output().expect("the program runs");
-    let due: String = all_named().iter().map(|(name, value)| format!("{name} {value}\n")).collect();
+    let due: String = named.iter().map(|(name, value)| format!("{name} {value}\n")).collect();
     assert_eq!(String::from_utf8_lossy(&output.stdout), due);
 }
 
@@ -290,22 +333,42 @@ fn the_limits_beside_the_row_places_are_the_models() {
     }
 }
 
+/// In the units of the row; a place without a limit says none.
+#[test]
+fn the_limits_beside_the_places_of_a_card_are_the_models() {
+    let header = header_of("jurengate_cards.h");
+    for (name, place, _) in CARD {
+        let line = line_of(&header, &place_name("CARD", name));
+        let goes = GOES.iter().find(|goes| goes.from == place);
+        let most = goes.map(|goes| u128::from(site::most(goes.to)) / goes.factor);
+        assert_eq!(said(line, "at most ").map(u128::from), most, "{line}");
+        if let Some(goes) = goes {
+            assert_eq!(u128::from(site::most(goes.to)) % goes.factor, 0, "{line}");
+        }
+    }
+}
+
 /// The kinds of symbol that `nm` has for static data that can be written.
 const DATA_KINDS: [&str; 5] = ["b", "B", "d", "D", "C"];
 
+/// Of each library: what it needs, its data, and what it offers, which is its calls alone, so that both can be linked.
 #[test]
-fn the_library_needs_memcpy_and_memset_alone_and_has_no_static_data() {
-    let output = Command::new("nm").arg(c_program::library()).output().expect("the command `nm` is needed");
-    let text = String::from_utf8(output.stdout).expect("text");
-    let symbols: Vec<Vec<&str>> = text.lines().map(|line| line.split_whitespace().collect()).collect();
-    let of_kind = |kind: &str| -> BTreeSet<&str> {
-        let named = symbols.iter().filter(|words| words.len() >= 2 && words[words.len() - 2] == kind);
-        named.map(|words| words[words.len() - 1]).collect()
-    };
-    assert_eq!(of_kind("U"), BTreeSet::from(["memcpy", "memset"]));
-    for kind in DATA_KINDS {
-        assert_eq!(of_kind(kind), BTreeSet::new(), "static data of kind {kind}");
+fn the_libraries_need_memcpy_and_memset_alone_and_have_no_static_data() {
+    let libraries: [(PathBuf, &[(&str, usize)]); 2] =
+        [(c_program::library(), &STACK_BOUNDS), (c_program::cards_library(), &CARDS_STACK_BOUNDS)];
+    for (library, calls) in libraries {
+        let output = Command::new("nm").arg(library).output().expect("the command `nm` is needed");
+        let text = String::from_utf8(output.stdout).expect("text");
+        let symbols: Vec<Vec<&str>> = text.lines().map(|line| line.split_whitespace().collect()).collect();
+        let of_kind = |kind: &str| -> BTreeSet<&str> {
+            let named = symbols.iter().filter(|words| words.len() >= 2 && words[words.len() - 2] == kind);
+            named.map(|words| words[words.len() - 1]).collect()
+        };
+        assert_eq!(of_kind("U"), BTreeSet::from(["memcpy", "memset"]));
+        for kind in DATA_KINDS {
+            assert_eq!(of_kind(kind), BTreeSet::new(), "static data of kind {kind}");
+        }
+        let calls: Vec<String> = calls.iter().map(|(call, _)| format!("jurengate_{call}")).collect();
+        assert_eq!(of_kind("T"), calls.iter().map(String::as_str).collect());
     }
-    let calls = STACK_BOUNDS.map(|(call, _)| format!("jurengate_{call}"));
-    assert_eq!(of_kind("T"), calls.iter().map(String::as_str).collect());
 }

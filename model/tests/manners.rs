@@ -1,4 +1,4 @@
-//! How the programs take their words: `modelline`, `soak`, `bench`, `fuzz/run`, and the build without the library.
+//! How the programs take their words: `modelline`, `modelcard`, `soak`, `bench`, `fuzz/run`, and the build without a library.
 
 #[path = "support/folder.rs"]
 mod folder;
@@ -13,6 +13,7 @@ use std::path::Path;
 use std::process::{Command, Stdio};
 
 const MODELLINE: &str = env!("CARGO_BIN_EXE_modelline");
+const MODELCARD: &str = env!("CARGO_BIN_EXE_modelcard");
 const SOAK: &str = env!("CARGO_BIN_EXE_soak");
 const BENCH: &str = env!("CARGO_BIN_EXE_bench");
 
@@ -34,6 +35,7 @@ fn help_is_printed() {
     let fuzz = repository::at("fuzz/run");
     let usages = [
         (Path::new(MODELLINE), "usage: modelline "),
+        (Path::new(MODELCARD), "usage: modelcard "),
         (Path::new(SOAK), "usage: soak ["),
         (Path::new(BENCH), "usage: bench "),
         (&fuzz, "usage: fuzz/run ["),
@@ -51,7 +53,7 @@ fn help_is_printed() {
 #[test]
 fn words_that_cannot_be_used_are_errors() {
     let fuzz = repository::at("fuzz/run");
-    let cases: [(&Path, &[&str], &str); 14] = [
+    let cases: [(&Path, &[&str], &str); 15] = [
         (Path::new(SOAK), &["many"], "soak: `many` is no number from 1 to 4294967295\n"),
         (Path::new(SOAK), &["0"], "soak: `0` is no number from 1"),
         (Path::new(SOAK), &["1", "-1"], "soak: `-1` is no number from 0"),
@@ -59,6 +61,7 @@ fn words_that_cannot_be_used_are_errors() {
         (Path::new(SOAK), &["1", "1", "1", "1"], "soak: `1` is a word too many\n"),
         (Path::new(SOAK), &["2", "0", "4294967295"], "soak: a seed has 4294967295 cards\n"),
         (Path::new(MODELLINE), &["card"], "modelline: `card` is no option\n"),
+        (Path::new(MODELCARD), &["card.txt"], "modelcard: `card.txt` is no option\n"),
         (Path::new(BENCH), &["10"], "bench: `10` is no option\n"),
         (&fuzz, &["long"], "fuzz: 'long' is no number of seconds from 1 up"),
         (&fuzz, &["0"], "fuzz: '0' is no number of seconds from 1 up"),
@@ -134,12 +137,18 @@ fn a_missing_library_is_named_with_its_command() {
         assert_eq!(status, Some(0));
         output
     };
-    let library = folder.path().join("libjurengate.a");
-    let due = format!(
-        "cargo::error=the engine's library {} is missing: build it with `rt staticlib jurengate`",
-        library.display()
-    );
-    assert!(build().contains(&due));
+    let missing = |name: &str| {
+        let library = folder.path().join(format!("lib{name}.a"));
+        let how = format!("build it with `rt staticlib {name}`, or");
+        build()
+            .contains(&format!("cargo::error=the engine's library {} is missing: {how}", library.display()))
+    };
+    let linked =
+        |name: &str| build().lines().any(|line| line == format!("cargo:rustc-link-lib=static={name}"));
+    let libraries = ["jurengate", "jurengate_cards"];
+    assert!(libraries.iter().all(|name| missing(name) && !linked(name)));
     folder.write("libjurengate.a", b"");
-    assert!(!build().contains("cargo::error") && build().contains("cargo:rustc-link-lib=static=jurengate"));
+    assert!(!missing("jurengate") && missing("jurengate_cards"));
+    folder.write("libjurengate_cards.a", b"");
+    assert!(libraries.iter().all(|name| linked(name)) && !build().contains("cargo::error"));
 }

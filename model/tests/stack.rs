@@ -13,13 +13,18 @@ mod stack_bounds;
 use folder::Folder;
 use jurengate_model::book::{BOOK_ROWS, ROW_FIELDS};
 use jurengate_model::cards::{curves, foods_file, published};
-use stack_bounds::STACK_BOUNDS;
+use stack_bounds::{CARDS_STACK_BOUNDS, STACK_BOUNDS};
 use std::process::Command;
 
 /// Stack that no call may reach, a quarter of the box's memory.
 const BOX_STACK: usize = 16 * 1024;
-/// The book's table, which the run keeps on its stack: a smaller figure measures nothing.
+/// The book's table, which a run and a row keep on their stack: a smaller figure measures nothing.
 const TABLE_BYTES: usize = 4 * BOOK_ROWS * ROW_FIELDS;
+
+/// The calls of both libraries with their bounds.
+fn bounds() -> Vec<(&'static str, usize)> {
+    [&STACK_BOUNDS[..], &CARDS_STACK_BOUNDS].concat()
+}
 
 /// A line `name: N bytes of stack, refusal R` as name, N and R.
 fn measured(line: &str) -> (String, usize, u32) {
@@ -34,7 +39,8 @@ fn measured(line: &str) -> (String, usize, u32) {
 fn measure() -> Vec<(String, usize, u32)> {
     let folder = Folder::new("stack");
     let program = folder.path().join("stack");
-    c_program::build("bench/stack.c", &["-lpthread"], &program);
+    let archives = [c_program::library(), c_program::cards_library()];
+    c_program::build_with(&repository::at("bench/stack.c"), &archives, &["-lpthread"], &program);
     let card =
         [("site", published::site()), ("foods", foods_file(&published::foods())), ("book", curves::book())];
     let files = card.map(|(name, bytes)| folder.write(name, &bytes));
@@ -46,8 +52,8 @@ fn measure() -> Vec<(String, usize, u32)> {
 #[test]
 fn every_call_keeps_to_its_stack() {
     let calls = measure();
-    assert_eq!(calls.len(), STACK_BOUNDS.len());
-    for ((name, bytes, refusal), (due, bound)) in calls.iter().zip(STACK_BOUNDS) {
+    assert_eq!(calls.len(), bounds().len());
+    for ((name, bytes, refusal), (due, bound)) in calls.iter().zip(bounds()) {
         assert_eq!((name.as_str(), *refusal), (due, 0));
         assert!(*bytes > 0, "jurengate_{name}: no stack at all was measured");
         assert!(
@@ -55,14 +61,14 @@ fn every_call_keeps_to_its_stack() {
             "jurengate_{name} has grown: it took {bytes} bytes of stack and may take {bound}"
         );
     }
-    for (name, bytes, _) in calls.iter().filter(|(name, ..)| name.starts_with("run")) {
+    for (name, bytes, _) in calls.iter().filter(|(name, ..)| name.starts_with("run") || name == "card_row") {
         assert!(*bytes >= TABLE_BYTES, "the {name} took {bytes} bytes of stack, less than its table");
     }
 }
 
 #[test]
 fn no_bound_reaches_a_quarter_of_the_box() {
-    for (name, bound) in STACK_BOUNDS {
+    for (name, bound) in bounds() {
         assert!(bound < BOX_STACK, "{name}");
     }
 }

@@ -1,6 +1,7 @@
-//! Every place of a site file, a foods block, a row and a state by its name, as the model has it.
+//! Every place of a site file, a foods block, a row, a state and a card's row by its name, as the model has it.
 
 use jurengate_model::book::column;
+use jurengate_model::card::field;
 use jurengate_model::foods::{food, local, FOODS as FOOD_COUNT, LOCAL_FOODS};
 use jurengate_model::site::{place, AGES};
 use jurengate_model::state::{compartment, ledger, COMPARTMENTS};
@@ -135,4 +136,21 @@ pub const STATE: [Place; 11] = [
     ("urine", 1 + COMPARTMENTS + ledger::URINE, 1),
     ("faeces", 1 + COMPARTMENTS + ledger::FAECES, 1),
     ("skin", 1 + COMPARTMENTS + ledger::SKIN, 1),
+];
+
+/// The fields of a row of a batch card.
+#[allow(dead_code)] // not every file of tests has cards
+pub const CARD: [Place; 12] = [
+    ("id", field::ID, 1),
+    ("fam", field::FAM, 1),
+    ("block", field::BLOCK, 1),
+    ("age", field::AGE, 1),
+    ("soil", field::SOIL, 1),
+    ("dust", field::DUST, 1),
+    ("water", field::WATER, 1),
+    ("air", field::AIR, 1),
+    ("other", field::OTHER, 1),
+    ("pbb", field::PBB, 1),
+    ("abssoil", field::ABSSOIL, 1),
+    ("absdust", field::ABSDUST, 1),
 ];
