@@ -120,6 +120,36 @@ fn bench_foods(site: &[u8], book: &[u8], state: &State) -> io::Result<()> {
     )
 }
 
+/// A row of a batch card with every figure, of this age.
+fn row(age: usize) -> Vec<u8> {
+    format!("A1 7 8 {age} 200.5 150.25 4.125 0.1 1.5 3.2 30 30").into_bytes()
+}
+
+/// Times rows of batch cards, each with its files read anew, as rows a second too.
+fn bench_rows(site: &[u8], book: &[u8]) -> io::Result<()> {
+    let (site, book) = (black_box(site), black_box(book));
+    let rows = [
+        ("a row of AGE 1", row(1)),
+        ("a row of AGE 12", row(12)),
+        ("a row of AGE 84", row(84)),
+        ("a row refused with 12", b"A1".to_vec()),
+    ];
+    for (what, row) in rows {
+        let row = black_box(row.as_slice());
+        assert_eq!(ffi::card_row(site, None, book, row), fast::card_row(site, None, book, row));
+        let mut engine = || {
+            black_box(ffi::card_row(site, None, book, row));
+        };
+        let mut rust = || {
+            black_box(fast::card_row(site, None, book, row));
+        };
+        let [engine, rust] = fastest([&mut engine, &mut rust]);
+        let told = |seconds: f64| format!("{:.2} µs ({:.0} rows a second)", 1e6 * seconds, 1.0 / seconds);
+        print(format!("{what}: engine {}, Rust {}, ratio {:.2}\n", told(engine), told(rust), engine / rust))?;
+    }
+    Ok(())
+}
+
 /// Times everything, up to a reader's end.
 fn bench() -> io::Result<()> {
     let (site, book) = (published::site(), curves::book());
@@ -147,7 +177,8 @@ fn bench() -> io::Result<()> {
     compare("one month call", &mut || engine_month(&middle), &mut || rust_month(&middle))?;
     compare("reading both files", &mut || engine_month(&last), &mut || rust_month(&last))?;
     compare_steps(&engine_month, &rust_month, &middle, &last)?;
-    bench_foods(&site, &book, &middle)
+    bench_foods(&site, &book, &middle)?;
+    bench_rows(&site, &book)
 }
 
 fn main() -> ExitCode {

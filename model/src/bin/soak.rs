@@ -1,10 +1,11 @@
 //! Random cards, whole and damaged, run by the engine and by the model.
 //!
 //! Each card's book is read, and its foods block if it has one; then the card is run in one call and lived
-//! again month by month. The engine must give the model's answers, and the same figures and last state both ways.
-//! Seed and number of a card make it, so that other seeds are other cards and one can be repeated alone.
+//! again month by month, and some rows of a batch card are run over it. The engine must give the model's answers,
+//! and the same figures and last state both ways. Seed and number of a card make it, so that other seeds are other cards and one can be repeated alone.
 
 use jurengate_model::book::{self, BOOK_ROWS, ROW_FIELDS};
+use jurengate_model::card;
 use jurengate_model::console::{asks_for_help, ended, misused, print, words};
 use jurengate_model::engine::{self, RunAnswer};
 use jurengate_model::ffi;
@@ -43,6 +44,9 @@ const BEFORE: u32 = 0x5EED_5EED;
 /// One past the highest refusal number.
 const NUMBERS: usize = 23;
 
+/// Rows that are run over each card.
+const ROWS: usize = 4;
+
 /// What was compared so far.
 #[derive(Default)]
 struct Tally {
@@ -55,6 +59,9 @@ struct Tally {
     accepted_foods: u64,
     births: u64,
     month_calls: u64,
+    rows: u64,
+    accepted_rows: u64,
+    skipped_rows: u64,
 }
 
 impl Tally {
@@ -70,6 +77,10 @@ impl Tally {
             self.with_foods, self.accepted_foods
         ));
         lines.push(format!("{} births and {} month calls compared", self.births, self.month_calls));
+        lines.push(format!(
+            "{} rows of batch cards compared, {} of them with a blood figure, {} skipped",
+            self.rows, self.accepted_rows, self.skipped_rows
+        ));
         lines.push(format!("no mismatch, {:.0} s\n", started.elapsed().as_secs_f64()));
         lines.join("\n")
     }
@@ -161,7 +172,22 @@ fn month_by_month(
     Ok(done)
 }
 
-/// One card both ways.
+/// Rows over a card, whole and damaged, each held to the model's.
+fn rows((site, foods, book): &Card, generator: &mut Generator, tally: &mut Tally) -> Result<(), String> {
+    let range = random::range(generator);
+    let rows: Vec<Vec<u8>> = (0..ROWS).map(|_| random::any_row(generator, range)).collect();
+    let due = card::answers(site, foods.as_deref(), book, rows.iter().map(Vec::as_slice));
+    for (row, due) in rows.iter().zip(due) {
+        let what = format!("row {:?}", String::from_utf8_lossy(row));
+        let answer = held(&what, ffi::card_row(site, foods.as_deref(), book, row), due.into())?;
+        tally.rows += 1;
+        tally.accepted_rows += u64::from(answer.number == 0 && !answer.skipped);
+        tally.skipped_rows += u64::from(answer.skipped);
+    }
+    Ok(())
+}
+
+/// One card both ways, and rows over it.
 fn soak(seed: u32, number: u32, tally: &mut Tally) -> Result<(), String> {
     let mut generator = Generator::of_card(seed, number);
     let card = card(&mut generator);
@@ -180,7 +206,7 @@ fn soak(seed: u32, number: u32, tally: &mut Tally) -> Result<(), String> {
     if list.len() == MONTHS {
         held("month by month and run", (lived, figures), (whole, list))?;
     }
-    Ok(())
+    rows(&card, &mut generator, tally)
 }
 
 /// A word of the command line as a number from `least` up.
