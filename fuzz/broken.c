@@ -22,6 +22,9 @@ uint32_t __real_jurengate_month_foods(const uint8_t *, size_t, const uint8_t *, 
 uint32_t __real_jurengate_run_foods(const uint8_t *, size_t, const uint8_t *, size_t, const uint8_t *, size_t, uint32_t *, size_t,
                                     uint64_t *, uint32_t *);
 
+uint32_t __real_jurengate_card_row(const uint8_t *, size_t, bool, const uint8_t *, size_t, const uint8_t *, size_t, const uint8_t *,
+                                   size_t, uint32_t *, bool *);
+
 /* Where a foods block has the lead of candy and the share of fish, whose neighbour is that of game. */
 enum { CANDY_LEAD_AT = 230, FISH_SHARE_AT = 282, FIELD_BYTES = 4 };
 
@@ -134,6 +137,55 @@ uint32_t __wrap_jurengate_run_foods(const uint8_t *site, size_t site_len, const 
     uint32_t number = __real_jurengate_run_foods(site, site_len, foods, foods_len, book, book_len, blood, blood_len, state, months);
     if (fault_is(12) && number == JURENGATE_FOOD_OUTSIDE_LIMITS) {
         *months = 1; /* a month that was never run */
+    }
+    return number;
+}
+
+/* Writes a row again with its tabs as spaces, or with its age as 1, and answers its new length. */
+static size_t rewritten(const uint8_t *row, size_t row_len, bool tabs, bool age, uint8_t *copy) {
+    size_t length = 0;
+    int field = -1;
+    for (size_t i = 0; i < row_len; i++) {
+        uint8_t byte = tabs && row[i] == '\t' ? ' ' : row[i];
+        bool begins = byte != ' ' && (i == 0 || row[i - 1] == ' ');
+        field += begins;
+        if (!age || field != JURENGATE_CARD_AGE || byte == ' ') {
+            copy[length++] = byte;
+        } else if (begins) {
+            copy[length++] = '1';
+        }
+    }
+    return length;
+}
+
+uint32_t __wrap_jurengate_card_row(const uint8_t *site, size_t site_len, bool has_foods, const uint8_t *foods, size_t foods_len,
+                                   const uint8_t *book, size_t book_len, const uint8_t *row, size_t row_len, uint32_t *blood,
+                                   bool *skipped) {
+    uint32_t number = __real_jurengate_card_row(site, site_len, has_foods, foods, foods_len, book, book_len, row, row_len, blood, skipped);
+    uint8_t copy[ROW_ROOM];
+    if (fault_is(13) && number == JURENGATE_CARD_TEXT_WRONG && row_len > 0 && row[row_len - 1] == ' ') {
+        sink = row[row_len]; /* reads one byte past a row that ends in a space */
+    }
+    if (fault_is(14) && *skipped) {
+        uint32_t figure = 0;
+        bool other = false;
+        size_t length = rewritten(row, row_len, false, true, copy);
+        if (__real_jurengate_card_row(site, site_len, has_foods, foods, foods_len, book, book_len, copy, length, &figure, &other) ==
+            JURENGATE_FIELD_OUTSIDE_LIMITS) {
+            *skipped = false;
+            return JURENGATE_FIELD_OUTSIDE_LIMITS; /* the row's 7 before the skip for its age */
+        }
+    }
+    if (fault_is(15) && number == JURENGATE_CARD_TEXT_WRONG) {
+        size_t length = rewritten(row, row_len, true, false, copy); /* a tab taken for a space */
+        return __real_jurengate_card_row(site, site_len, has_foods, foods, foods_len, book, book_len, copy, length, blood, skipped);
+    }
+    if (fault_is(16) && number == JURENGATE_BURDEN_TOO_LARGE) {
+        *blood = 1; /* a figure beside a refusal */
+    }
+    if (fault_is(17) && number == JURENGATE_ACCEPTED && has_foods && !*skipped) {
+        return __real_jurengate_card_row(site, site_len, false, foods, foods_len, book, book_len, row, row_len, blood,
+                                         skipped); /* the site file's diet in spite of the foods */
     }
     return number;
 }

@@ -10,7 +10,7 @@
 #include <sys/mman.h>
 #include <ucontext.h>
 
-enum { CODE_ROOM = 1 << 15, PAGE_BYTES = 4096, BREAKPOINT = 0xCC };
+enum { CODE_ROOM = 1 << 17, PAGE_BYTES = 4096, BREAKPOINT = 0xCC };
 
 extern uint8_t __executable_start[];
 

@@ -10,8 +10,9 @@
 #include "case.h"
 #include "engine_code.h"
 #include "jurengate.h"
+#include "jurengate_cards.h"
 
-enum memory { SITE, FOODS, BOOK, STATE, LIST, FIGURE, MEMORIES };
+enum memory { SITE, FOODS, BOOK, STATE, LIST, FIGURE, ROW, FLAG, MEMORIES };
 
 enum { PAGE = 4096, OPEN_BYTES = 3 * PAGE, PAINT = 0xA5, FILLER = 0x5A };
 
@@ -30,8 +31,8 @@ static uint8_t paint[OPEN_BYTES];
 static struct fuzz_case asked;
 
 static const char *const call_names[CALLS] = {"read_site",  "read_book",   "write_block", "birth",    "month", "run",
-                                              "read_foods", "birth_foods", "month_foods", "run_foods"};
-static const char *const memory_names[MEMORIES] = {"site", "foods", "book", "state", "list", "figure"};
+                                              "read_foods", "birth_foods", "month_foods", "run_foods", "card_row"};
+static const char *const memory_names[MEMORIES] = {"site", "foods", "book", "state", "list", "figure", "row", "flag"};
 
 /* The numbers that each call can answer, a bit for each. */
 #define BIT(number) (1u << JURENGATE_##number)
@@ -54,9 +55,10 @@ static const uint32_t answerable[CALLS] = {
     [BIRTH_FOODS] = BIRTH_NUMBERS | FOODS_NUMBERS,
     [MONTH_FOODS] = MONTH_NUMBERS | FOODS_NUMBERS,
     [RUN_FOODS] = RUN_NUMBERS | FOODS_NUMBERS,
+    [CARD_ROW] = BIRTH_NUMBERS | FOODS_NUMBERS | BIT(INTAKE_TOO_LARGE) | BIT(CARD_TEXT_WRONG),
 };
 
-static uint64_t met[CALLS][NUMBERS];
+static uint64_t met[CALLS][NUMBERS], rows_skipped;
 
 /* What the engine answers guides the fuzzer too. */
 __attribute__((section("__libfuzzer_extra_counters"))) static uint8_t seen[CALLS][NUMBERS][JURENGATE_MONTHS + 1];
@@ -73,13 +75,16 @@ struct calls {
     uint32_t (*month_foods)(const uint8_t *, size_t, const uint8_t *, size_t, const uint8_t *, size_t, uint64_t *, uint32_t *);
     uint32_t (*run_foods)(const uint8_t *, size_t, const uint8_t *, size_t, const uint8_t *, size_t, uint32_t *, size_t, uint64_t *,
                           uint32_t *);
+    uint32_t (*card_row)(const uint8_t *, size_t, bool, const uint8_t *, size_t, const uint8_t *, size_t, const uint8_t *, size_t,
+                         uint32_t *, bool *);
 };
 
 static const struct calls engine = {jurengate_read_site,   jurengate_read_book,   jurengate_write_block, jurengate_birth,
                                     jurengate_month,       jurengate_run,         jurengate_read_foods,  jurengate_birth_foods,
-                                    jurengate_month_foods, jurengate_run_foods};
+                                    jurengate_month_foods, jurengate_run_foods,   jurengate_card_row};
 static const struct calls model = {model_read_site, model_read_book,  model_write_block, model_birth,       model_month,
-                                   model_run,       model_read_foods, model_birth_foods, model_month_foods, model_run_foods};
+                                   model_run,       model_read_foods, model_birth_foods, model_month_foods, model_run_foods,
+                                   model_card_row};
 
 static uint32_t answer(const struct calls *by, uint8_t *const at[MEMORIES]) {
     const uint8_t *site = at[SITE], *foods = at[FOODS], *book = at[BOOK];
@@ -98,6 +103,9 @@ static uint32_t answer(const struct calls *by, uint8_t *const at[MEMORIES]) {
     case MONTH_FOODS: return by->month_foods(site, site_len, foods, foods_len, book, book_len, state, figure);
     case RUN_FOODS:
         return by->run_foods(site, site_len, foods, foods_len, book, book_len, list, asked.list_len, state, figure);
+    case CARD_ROW:
+        return by->card_row(site, site_len, asked.has_foods, foods, foods_len, book, book_len, at[ROW], asked.row_len, figure,
+                            (bool *)at[FLAG]);
     }
     abort();
 }
@@ -136,6 +144,8 @@ static void lend_all(void) {
     lend(STATE, is_month() ? asked.state : NULL, sizeof asked.state);
     lend(LIST, NULL, list_bytes());
     lend(FIGURE, NULL, sizeof(uint32_t));
+    lend(ROW, asked.row, asked.row_len);
+    lend(FLAG, NULL, sizeof(bool));
 }
 
 static void fail(const char *what, const char *where) {
@@ -161,6 +171,9 @@ static void count(uint32_t number) {
         memcpy(&months, lent[FIGURE].due, sizeof months);
     } else if (is_month() && number != JURENGATE_NO_STATE) {
         months = (uint32_t)asked.state[JURENGATE_STATE_MONTH] % (JURENGATE_MONTHS + 1);
+    } else if (asked.call == CARD_ROW) {
+        months = lent[FLAG].due[0]; /* skipped or not */
+        rows_skipped += months;
     }
     met[asked.call][number]++;
     seen[asked.call][number][months]++;
@@ -178,6 +191,7 @@ static void print_counts(void) {
         }
         printf("\n");
     }
+    printf("card_row skipped: %llu%s\n", (unsigned long long)rows_skipped, rows_skipped ? "" : " NOT MET");
     printf("%llu calls compared\n", (unsigned long long)calls);
     print_engine_code();
 }

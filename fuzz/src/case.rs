@@ -3,8 +3,9 @@
 use crate::edit::edit;
 use crate::tape::Tape;
 use jurengate_model::block::BLOCK_BYTES;
+use jurengate_model::card::field;
 use jurengate_model::cards;
-use jurengate_model::random::{self, Generator, Range};
+use jurengate_model::random::{self, Generator, Range, TextFault};
 use jurengate_model::state::{State, MONTHS};
 
 /// Longest site file that is lent.
@@ -13,6 +14,8 @@ const SITE_ROOM: usize = 2 * BLOCK_BYTES;
 const FOODS_ROOM: usize = 2 * BLOCK_BYTES;
 /// Longest book that is lent.
 const BOOK_ROOM: usize = 19 * BLOCK_BYTES;
+/// Longest row that is lent.
+const ROW_ROOM: usize = 1024;
 /// From this first byte on, the bytes of an input stand for themselves.
 const RAW_FROM: u8 = 0xE0;
 /// Edits that one input may make.
@@ -32,6 +35,7 @@ enum Call {
     BirthFoods,
     MonthFoods,
     RunFoods,
+    CardRow,
 }
 
 /// A run takes as long as 84 months, so it is drawn seldom.
@@ -39,9 +43,9 @@ const CALLS: [Call; 32] = {
     use Call::*;
     [
         Month, ReadSite, Birth, Month, WriteBlock, ReadBook, Birth, ReadSite, Month, Month, Birth, ReadBook,
-        Month, Run, Month, Month, MonthFoods, ReadFoods, BirthFoods, MonthFoods, MonthFoods, ReadFoods,
-        BirthFoods, MonthFoods, BirthFoods, MonthFoods, ReadFoods, MonthFoods, BirthFoods, RunFoods,
-        MonthFoods, MonthFoods,
+        Month, Run, CardRow, CardRow, MonthFoods, ReadFoods, BirthFoods, MonthFoods, MonthFoods, ReadFoods,
+        BirthFoods, MonthFoods, CardRow, CardRow, ReadFoods, MonthFoods, BirthFoods, RunFoods, CardRow,
+        CardRow,
     ]
 };
 
@@ -69,6 +73,10 @@ pub struct Case {
     pub foods: Vec<u8>,
     /// The rate book.
     pub book: Vec<u8>,
+    /// The row of a batch card.
+    pub row: Vec<u8>,
+    /// Whether the row has the foods block beside it.
+    pub has_foods: bool,
     /// The state handed to the month call.
     pub state: State,
     /// How far the length of the run's list or the writer's target is from the one due.
@@ -80,14 +88,17 @@ pub struct Case {
 pub struct LentCase {
     call: u32,
     sides: u32,
+    has_foods: bool,
     site_len: usize,
     foods_len: usize,
     book_len: usize,
+    row_len: usize,
     list_len: usize,
     state: [u64; 11],
     site: [u8; SITE_ROOM],
     foods: [u8; FOODS_ROOM],
     book: [u8; BOOK_ROOM],
+    row: [u8; ROW_ROOM],
 }
 
 /// Reads an input as a call.
@@ -110,7 +121,8 @@ pub unsafe extern "C" fn fuzz_case_of(input: *const u8, size: usize, lent: *mut 
 /// A card and a state chosen, then edited to the input's end.
 fn built(tape: &mut Tape) -> Case {
     let (site, foods, book) = card(tape);
-    let mut case = Case { site, foods, book, state: state(tape), list_off: 0 };
+    let (state, row) = (state(tape), row(tape));
+    let mut case = Case { site, foods, book, row, has_foods: true, state, list_off: 0 };
     for _ in 0..EDITS {
         if tape.is_spent() {
             break;
@@ -147,16 +159,33 @@ fn state(tape: &mut Tape) -> State {
     }
 }
 
-/// What is left of the input, cut in three; the blocks are sealed if it says so.
+/// A random row, whole or with faults, mostly of a child so young that its months are few.
+fn row(tape: &mut Tape) -> Vec<u8> {
+    let (range, faults, age) = (Range::of_turn(tape.index(3)), tape.index(4) / 2, tape.index(16));
+    let mut generator = Generator::new(tape.word().into());
+    let mut texts = random::field_texts(&mut generator, range);
+    if age > 0 {
+        texts[field::AGE] = age.min(3).to_string().into_bytes();
+    }
+    let faults: Vec<TextFault> = (0..faults).map(|_| random::text_fault(&mut generator)).collect();
+    random::break_texts(&mut texts, &faults);
+    random::joined(&mut generator, &texts)
+}
+
+/// What is left of the input, cut in four; the blocks are sealed if it says so.
 fn raw(tape: &mut Tape) -> Case {
     let seals = tape.byte();
     let list_off = tape.byte() as i8;
     let state = state(tape);
-    let (site_len, foods_len) = (usize::from(tape.word()), usize::from(tape.word()));
-    let bytes = tape.rest();
-    let (site, rest) = bytes.split_at(site_len.min(bytes.len()));
-    let (foods, book) = rest.split_at(foods_len.min(rest.len()));
-    let mut case = Case { site: site.to_vec(), foods: foods.to_vec(), book: book.to_vec(), state, list_off };
+    let lengths = [tape.word(), tape.word(), tape.word()].map(usize::from);
+    let mut rest = tape.rest();
+    let mut cut = |length: usize| {
+        let (part, behind) = rest.split_at(length.min(rest.len()));
+        rest = behind;
+        part.to_vec()
+    };
+    let (row, site, foods, book) = (cut(lengths[2]), cut(lengths[0]), cut(lengths[1]), cut(usize::MAX));
+    let mut case = Case { site, foods, book, row, has_foods: seals & 8 == 0, state, list_off };
     for (bit, file) in [(1, &mut case.site), (2, &mut case.book), (4, &mut case.foods)] {
         if seals & bit != 0 {
             file.chunks_exact_mut(BLOCK_BYTES).for_each(cards::seal);
@@ -172,6 +201,8 @@ fn lend(case: Case, call: Call, lent: &mut LentCase) {
     lent.site_len = copy(site, &mut lent.site);
     lent.foods_len = copy(&case.foods, &mut lent.foods);
     lent.book_len = copy(&case.book, &mut lent.book);
+    lent.row_len = copy(&case.row, &mut lent.row);
+    lent.has_foods = case.has_foods;
     lent.list_len = list_due.saturating_add_signed(case.list_off.into());
     lent.state = case.state.to_numbers();
 }

@@ -1,9 +1,10 @@
-//! Edits of a card and a state, each as a few bytes of the input ask for.
+//! Edits of a card, a row and a state, each as a few bytes of the input ask for.
 
 use crate::case::Case;
 use crate::tape::Tape;
 use jurengate_model::block::{self, BLOCK_BYTES, EDITION_AT, NUMBER_AT};
 use jurengate_model::book::{self, Row, BLOCK_ROWS, BOOK_BLOCKS, BOOK_BYTES, ROW_FIELDS};
+use jurengate_model::card::{self, CARD_FIELDS};
 use jurengate_model::cards;
 use jurengate_model::foods::{local, Foods, FOODS, GRAMS_MOST, LEAD_MOST, LOCAL_FOODS};
 use jurengate_model::random::{self, INTAKES};
@@ -20,7 +21,7 @@ const UNSEALED_FROM: u8 = 0xE0;
 pub fn edit(tape: &mut Tape, case: &mut Case) {
     let what = tape.byte();
     let seal = what < UNSEALED_FROM;
-    match what % 20 {
+    match what % 24 {
         0 => edit_block(tape, case, seal, put_word),
         1 => edit_block(tape, case, seal, put_header),
         2 => edit_block(tape, case, seal, turn_bits),
@@ -36,7 +37,11 @@ pub fn edit(tape: &mut Tape, case: &mut Case) {
         16 => edit_foods(tape, case, seal, put_food_limit),
         17 => edit_foods(tape, case, seal, put_food_figure),
         18 => edit_foods(tape, case, seal, put_shares),
-        _ => edit_foods(tape, case, seal, break_diet),
+        19 => edit_foods(tape, case, seal, break_diet),
+        20 => put_field_text(tape, case),
+        21 => put_byte(tape, case),
+        22 => put_field_figure(tape, case),
+        _ => case.has_foods = tape.index(2) == 1,
     }
 }
 
@@ -225,6 +230,62 @@ fn swap_blocks(tape: &mut Tape, case: &mut Case) {
     };
     if let (Some(one), Some(other)) = (one, other) {
         one.swap_with_slice(other);
+    }
+}
+
+/// What a field of a row may be, and what it may not.
+const FIELD_TEXTS: [&[u8]; 16] = [
+    b"*",
+    b"",
+    b"x",
+    b"0",
+    b"85",
+    b"84",
+    b"00000001",
+    b"000000001",
+    b"50000.1",
+    b"100.001",
+    b"1000.001",
+    b"101",
+    b"*\t*",
+    b"1\r",
+    b"1 1",
+    b"    ",
+];
+
+/// Other text for one field of the row: one of the list above, or something that is no figure.
+fn put_field_text(tape: &mut Tape, case: &mut Case) {
+    let (field, which) = (tape.index(CARD_FIELDS), tape.index(FIELD_TEXTS.len() + random::NO_FIGURES.len()));
+    let text = FIELD_TEXTS.iter().chain(&random::NO_FIGURES).nth(which).expect("one of both lists");
+    put_field(case, field, text);
+}
+
+/// A figure for one field of the row, near a number at which a rule changes.
+fn put_field_figure(tape: &mut Tape, case: &mut Case) {
+    let (field, number, decimals) = (tape.index(CARD_FIELDS), tape.number(), tape.index(5));
+    let figure = match decimals {
+        0 => number.to_string(),
+        _ => format!("{}.{:0>decimals$}", number / 1_000, number % 10u64.pow(decimals as u32)),
+    };
+    put_field(case, field, figure.as_bytes());
+}
+
+/// The row with one field changed, if it has that field.
+fn put_field(case: &mut Case, field: usize, text: &[u8]) {
+    let mut fields = card::fields(&case.row);
+    if let Some(old) = fields.get_mut(field) {
+        *old = text;
+    }
+    case.row = fields.join(&b' ');
+}
+
+/// A byte of the row turned, put in or taken out.
+fn put_byte(tape: &mut Tape, case: &mut Case) {
+    let (at, byte) = (usize::from(tape.byte()) % (case.row.len() + 1), tape.byte());
+    match tape.index(3) {
+        0 if at < case.row.len() => case.row[at] = byte,
+        1 if at < case.row.len() => drop(case.row.remove(at)),
+        _ => case.row.insert(at, byte),
     }
 }
 

@@ -1,6 +1,6 @@
-//! The model behind the signatures of jurengate.h, each call under the name `model_*`.
+//! The model behind the signatures of jurengate.h and jurengate_cards.h, each call under the name `model_*`.
 //!
-//! The pointers are those of the header's calls, and must be good for the same memory.
+//! The pointers are those of the headers' calls, and must be good for the same memory.
 
 #![allow(clippy::missing_safety_doc)]
 
@@ -9,7 +9,7 @@ use jurengate_model::foods::FOODS_FIGURES;
 use jurengate_model::refusal::number_of;
 use jurengate_model::site::SITE_FIELDS;
 use jurengate_model::state::State;
-use jurengate_model::{block, book, engine, foods, site};
+use jurengate_model::{block, book, card, engine, foods, site};
 use std::slice::{from_raw_parts, from_raw_parts_mut};
 
 /// Eleven numbers of a state.
@@ -167,5 +167,27 @@ pub unsafe extern "C" fn model_run_foods(
     let list = unsafe { from_raw_parts_mut(blood, blood_len) };
     let answer = engine::run_foods(site, Some(foods), book, list);
     unsafe { (*state, *months) = (answer.state.to_numbers(), answer.months) };
+    answer.number
+}
+
+/// The model's row of a batch card.
+#[no_mangle]
+pub unsafe extern "C" fn model_card_row(
+    site: *const u8,
+    site_len: usize,
+    has_foods: bool,
+    foods: *const u8,
+    foods_len: usize,
+    book: *const u8,
+    book_len: usize,
+    row: *const u8,
+    row_len: usize,
+    blood: *mut u32,
+    skipped: *mut u8,
+) -> u32 {
+    let [site, foods, book] = unsafe { files([(site, site_len), (foods, foods_len), (book, book_len)]) };
+    let row = unsafe { from_raw_parts(row, row_len) };
+    let answer = card::card_row(site, has_foods.then_some(foods), book, row);
+    unsafe { (*blood, *skipped) = (answer.blood, answer.skipped.into()) };
     answer.number
 }
