@@ -2,7 +2,8 @@
  *
  * A site file and a rate book go in; a child's blood lead at the end of months 1 to 84 comes out. The calls that end in _foods take
  * a foods block too, and reckon the diet from it and not from the site file's diet figures. docs/FORMAT.md has all three byte by
- * byte. Lead is in pg, blood lead in thousandths of ug/dL. C99, and C++ from C++11 on.
+ * byte. Lead is in pg, blood lead in thousandths of ug/dL. C99, and C++ from C++11 on. The rows of a survey's text have a library
+ * of their own: jurengate_cards.h.
  *
  * CALLS. Nothing has to be checked before a call: it takes bytes of any length and content, and any numbers as a state, and answers
  * JURENGATE_ACCEPTED or the first refusal that holds. They are tried in this order:
