@@ -294,6 +294,22 @@ fn a_survey_ends_with_3_only_if_a_row_was_refused() {
     assert!(words.contains("  refused 7 in line 4: a figure is over its limit"), "{words}");
 }
 
+/// It is the survey's program that is proved, built and named.
+#[test]
+fn a_survey_s_program_that_is_not_proved_is_not_run() {
+    let copy = Copy::new("survey-not-proved");
+    copy.prover("rt: lines NOT PROVED (3 s)\n", 1);
+    let told = copy.run(&["samples/survey"]);
+    assert_eq!((told.status, told.output.as_slice()), (Some(1), &b""[..]));
+    assert!(told.errors.contains("the program leadcard was not proved"), "{}", told.errors);
+    copy.prover(PROVED, 0);
+    fs::remove_file(copy.folder.path().join("target/bin/leadcard")).expect("the link was there");
+    let told = copy.run(&["samples/survey"]);
+    assert_eq!((told.status, told.output.as_slice()), (Some(1), &b""[..]));
+    assert!(told.errors.contains("leadcard is missing"), "{}", told.errors);
+    assert_eq!(copy.run(&[]).status, Some(0), "the months need no leadcard");
+}
+
 #[test]
 fn many_lines_are_counted_and_tabs_are_told() {
     let copy = with_sound_files("tabs");
@@ -336,7 +352,9 @@ fn a_survey_over_files_that_are_refused_is_told_once() {
     let row_fault = Fault::Row(60, row_faults()[0]);
     let cases = [
         (Fault::SiteCheck, "  site.lkb has a wrong check"),
+        (Fault::BlockEdition(0), "  book.lkb, block 0 (months 0 to 4), is of another edition than 1"),
         (Fault::BlockNumber(7), "  book.lkb, block 7 (months 35 to 39), bears another block's number"),
+        (Fault::SiteReserved, "  site.lkb has a byte that is not zero"),
         (Fault::SiteField(0), "  site.lkb has a figure outside its limits"),
         (row_fault, "  book.lkb, block 12 (months 60 to 64), has a row"),
         (Fault::SiteLength(511), "  site.lkb has 511 bytes, and 512 are due"),
