@@ -1,14 +1,14 @@
 -- Fields that are wrong, one after the other, as `any_wrong` tests them.
 -- Assumes nothing.
 use Prim.Native.Nat.{ℕ}
-use mathlib.Core.Path.{_≡_, ap, _∙_, sym}
+use mathlib.Core.Path.{_≡_, ap, _∙_}
 use mathlib.Core.Bool.{Bool, true, false, _||_}
 use mathlib.Core.Logic.{_⊎_, inl, inr}
 use lib.ListN.{drop}
 use Rattle.card.specs.declared.Readings.{Readings}
 use Rattle.card.specs.Row.{wrong, readingsIn, anyWrong}
 
--- one of the first k fields is wrong or not, b, and the others decide
+-- b says whether one of the first k fields is wrong; if not, the others decide
 abbrev pub SoFar : ℕ → Bool → Readings → Type 0
 SoFar k b r = b || anyWrong (drop k (readingsIn r)) ≡ anyWrong (readingsIn r)
 
@@ -16,7 +16,7 @@ pub or-first : (r : Readings) {b : Bool} → b ≡ wrong (r .fam) → SoFar 1 b 
 unfolding anyWrong
 or-first r e = ap (_|| anyWrong (drop 1 (readingsIn r))) e
 
--- a flag p or a test's answer, v: p is true and v is p, or p is false and v the answer
+-- v is the code's `p || test`: p is true and v is p, or p is false and v is the test's answer
 pub or-next :
     {T E : Type 0} {W : E → Type 0} {g : (x : E) → W x → Bool} {v p : Bool} (w rest whole : Bool)
     → (T × (v ≡ p)) ⊎ ((x : E) × (y : W x) × (v ≡ g x y))

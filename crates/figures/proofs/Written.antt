@@ -1,12 +1,12 @@
 -- Numbers as they are written are read as they are.
 -- Assumes nothing.
 use Prim.Native.Nat.{ℕ, suc, _+_, _-_, _*_, _^_, _≤_, _<_}
-use mathlib.Core.Path.{_≡_, refl, ap, _∙_, sym}
-use mathlib.Core.Bool.{Bool, true, false, cond, _&&_}
+use mathlib.Core.Path.{_≡_, refl, ap, _∙_}
+use mathlib.Core.Bool.{Bool, true, false, cond}
 use mathlib.Core.List.{List, [], _∷_, _++_}
 use native.Mathlib.Omega.{arith}
 use native.Mathlib.Decide.{decLt}
-use borrow.Author.Tests.{le-leb, leb-true, eqb-false, eq-eqb, ne-eqb}
+use borrow.Author.Tests.{le-leb, leb-true, ne-eqb}
 use lib.ListN.{length, getD, drop}
 use lib.Seq.{drop-length}
 use lib.Dec.{leb}
@@ -18,8 +18,8 @@ use Rattle.numbers.specs.Lists.{Each}
 use Rattle.numbers.proofs.Every.{and-both}
 use Rattle.figures.specs.declared.Reading.{Reading}
 use Rattle.figures.specs.declared.Reading.the-variants.{Missing, Figure, Wrong}
-use Rattle.figures.specs.Figure.{isDigit, digitsFrom, wholeOf, times, plus, fractionOf, upTo, thousandthsOf, isStar, plainField, figureField}
-use Rattle.figures.specs.Laws.{WrittenIsRead, WrittenLaw, StarLaw, IsWhole, WholeLaw}
+use Rattle.figures.specs.Figure.{isDigit, digitsFrom, wholeOf, fractionOf, upTo, thousandthsOf, isStar, plainField, figureField}
+use Rattle.figures.specs.Laws.{WrittenLaw, StarLaw, IsWhole, WholeLaw}
 
 -- bytes `0` to `9`
 abbrev Digits : List ℕ → Type 0
