@@ -19,7 +19,7 @@ use Rattle.numbers.proofs.Every.{and-both}
 use Rattle.figures.specs.declared.Reading.{Reading}
 use Rattle.figures.specs.declared.Reading.the-variants.{Missing, Figure, Wrong}
 use Rattle.figures.specs.Figure.{isDigit, digitsFrom, wholeOf, fractionOf, upTo, thousandthsOf, isStar, plainField, figureField}
-use Rattle.figures.specs.Laws.{WrittenLaw, StarLaw, IsWhole, WholeLaw}
+use Rattle.figures.specs.Laws.{WrittenLaw, StarLaw}
 
 -- bytes `0` to `9`
 abbrev Digits : List ℕ → Type 0
@@ -126,53 +126,3 @@ written-law n fits =
 pub star-law : StarLaw
 unfolding plainField figureField
 star-law = record { plain = refl; figure = λ unit. refl }
-
--- only digits are read
-figure-same : {m n : ℕ} → Figure m ≡ Figure n → m ≡ n
-figure-same e = ap number e
-  where
-    number : Reading → ℕ
-    number Missing = 0
-    number (Figure n) = n
-    number Wrong = 0
-
-figures-in : Reading → ℕ
-figures-in Missing = 0
-figures-in (Figure n) = 1
-figures-in Wrong = 0
-
-wrong-not : {n : ℕ} → Wrong ≡ Figure n → ⊥
-unfolding figures-in
-wrong-not e = let z = ap figures-in e in omega arith
-
-missing-not : {n : ℕ} → Missing ≡ Figure n → ⊥
-unfolding figures-in
-missing-not e = let z = ap figures-in e in omega arith
-
-module _ (v d : ℕ) (ds : List ℕ) (n : ℕ) (later : digitsFrom (10 * v + (d - 48)) ds ≡ Figure n → Digits ds × (valueFrom (10 * v + (d - 48)) ds ≡ n)) where
-  digit-only : (t : Bool) → isDigit d ≡ t → cond t (digitsFrom (10 * v + (d - 48)) ds) Wrong ≡ Figure n → Digits (d ∷ ds) × (valueFrom v (d ∷ ds) ≡ n)
-  unfolding valueFrom
-  digit-only true t e =
-      let both = and-both (leb 48 d) (leb d 57) t in
-      (((leb-true 48 d (both .0), leb-true d 57 (both .1)), later e .0), later e .1)
-  digit-only false t e = absurd (wrong-not e)
-
-digits-only : (v : ℕ) (ds : List ℕ) (n : ℕ) → digitsFrom v ds ≡ Figure n → Digits ds × (valueFrom v ds ≡ n)
-unfolding digitsFrom valueFrom
-digits-only v [] n e = (tt, figure-same e)
-digits-only v (d ∷ ds) n e = digit-only v d ds n (digits-only (10 * v + (d - 48)) ds n) (isDigit d) refl e
-
-whole-only : (field : List ℕ) (n : ℕ) → wholeOf field ≡ Figure n → IsWhole field n
-unfolding wholeOf
-whole-only [] n e = absurd (wrong-not e)
-whole-only (d ∷ ds) n e =
-    let are = digits-only 0 (d ∷ ds) n e in
-    record { some = omega arith; digits = are .0; value = are .1 }
-
-whole-by : (field : List ℕ) (n : ℕ) (t : Bool) → cond t Missing (wholeOf field) ≡ Figure n → IsWhole field n
-whole-by field n true e = absurd (missing-not e)
-whole-by field n false e = whole-only field n e
-
-pub whole-law : WholeLaw
-unfolding plainField
-whole-law field n e = whole-by field n (isStar field) e

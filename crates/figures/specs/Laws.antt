@@ -1,4 +1,4 @@
--- The laws of a card's figures: numbers as they are written are read as they are, and only digits are read as a whole number.
+-- The laws of a card's figures: numbers as they are written are read as they are, and nothing else is read as a figure.
 -- Assumes nothing.
 use mathlib.Core.Path.{_≡_}
 use mathlib.Core.List.{List, [], _∷_, _++_}
@@ -9,7 +9,7 @@ use Rattle.text.specs.Decimal.{digit, decimal}
 use Rattle.text.specs.Laws.{valueFrom}
 use Rattle.numbers.specs.Lists.{Each}
 use Rattle.figures.specs.declared.Reading.the-variants.{Missing, Figure}
-use Rattle.figures.specs.Figure.{plainField, figureField}
+use Rattle.figures.specs.Figure.{decimals, plainField, figureField}
 
 -- a number below 10^10, whole and with one, two and three decimals, and an asterisk
 pub record WrittenIsRead (n : ℕ) : Type 0 where
@@ -37,3 +37,20 @@ pub record IsWhole (field : List ℕ) (n : ℕ) : Type 0 where
 
 abbrev pub WholeLaw : Type 0
 WholeLaw = (field : List ℕ) (n : ℕ) → plainField field ≡ Figure n → IsWhole field n
+
+-- decimals with their point, if there are any
+abbrev pub pointed : List ℕ → List ℕ
+pointed [] = []
+pointed (d ∷ ds) = point ∷ d ∷ ds
+
+-- a field that is read as a figure is one digit or more, then at most a point and one to three digits, and nothing else
+pub record IsFigure (field : List ℕ) : Type 0 where
+  pub before : List ℕ
+  pub after : List ℕ
+  pub parts : field ≡ before ++ pointed after
+  pub some : 0 < length before
+  pub few : length after ≤ decimals
+  pub digits : Each (λ (b : ℕ). (digit 0 ≤ b) × (b ≤ digit 9)) (before ++ after)
+
+abbrev pub FigureLaw : Type 0
+FigureLaw = (unit : ℕ) (field : List ℕ) (n : ℕ) → figureField unit field ≡ Figure n → IsFigure field
