@@ -1,4 +1,5 @@
 pub mod BornAnswers
+pub mod CourseInRun
 pub mod CourseSteps
 pub mod MonthAnswers
 pub mod RunLoop

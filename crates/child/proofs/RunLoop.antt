@@ -23,10 +23,10 @@ prefixed bs r = record { refusal = r .refusal; figures = bs ++ r .figures; state
 
 -- a run that begins with the month m, by whether m is refused
 module _ (m : MonthAnswer) (rest : MonthsRun) where
-  then-refused : (m .refusal ≡ 0 → ⊥) → andThen m rest ≡ noMonth (m .refusal) (m .state)
+  pub then-refused : (m .refusal ≡ 0 → ⊥) → andThen m rest ≡ noMonth (m .refusal) (m .state)
   then-refused = answer-refused _ _ (m .refusal)
 
-  then-accepted : m .refusal ≡ 0 → andThen m rest ≡ monthThen m rest
+  pub then-accepted : m .refusal ≡ 0 → andThen m rest ≡ monthThen m rest
   then-accepted z = rw z
 
 -- x and l are what a run of months answers and what it leaves in the list l₀

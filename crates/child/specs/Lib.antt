@@ -3,4 +3,5 @@ pub mod Birth
 pub mod Month
 pub mod Months
 pub mod Course
+pub mod Laws
 pub mod Internal

@@ -89,7 +89,7 @@ length-first : (f : Files) (r : ℕ) → lengthRefusal f ≡ suc r → birthRefu
 unfolding birthRefusal filesRefusal beforeBookRefusal
 length-first f r e = rw e
 
-birth-is-start : (f : Files) → startRefusal f lastMonth ≡ birthRefusal f
+pub birth-is-start : (f : Files) → startRefusal f lastMonth ≡ birthRefusal f
 unfolding startRefusal unless
 birth-is-start f = by-length (lengthRefusal f) refl
   where

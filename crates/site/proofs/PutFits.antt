@@ -13,9 +13,9 @@ use lib.Seq.{getD-set-same, getD-set-other}
 use lib.Dec.{eqb}
 use Rattle.numbers.specs.Choice.{every}
 use Rattle.numbers.proofs.Every.{and-true, every-of, every-at}
-use Rattle.site.specs.Fields.{ages, groups, singlesAt, fieldCount, firstDrawShareAt, fountainShareAt, saturationAt, at, limits, byAge, single, firstDrawShareIn, fountainShareIn, saturationIn, withinLimits, saturationFits, sharesFit, fieldsFit}
-use Rattle.site.specs.Put.{putFrom, everyAge, singly}
-use Rattle.site.specs.Laws.{Fits, Plain, EveryAgeFits, SinglyFits, EveryAgeOf, EveryAgePuts, SinglyOf, SinglyPuts}
+use Rattle.site.specs.Fields.{ages, groups, singlesAt, fieldCount, firstDrawShareAt, fountainShareAt, saturationAt, at, limits, byAge, firstDrawShareIn, fountainShareIn, saturationIn, withinLimits, saturationFits, sharesFit, fieldsFit}
+use Rattle.site.specs.Put.{putFrom}
+use Rattle.site.specs.Laws.{Fits, EveryAgeFits, SinglyFits, EveryAgePuts, SinglyPuts}
 use Rattle.site.proofs.FieldTests.{fieldWithin}
 use Rattle.site.proofs.FieldsWithin.{field-le, saturation-ge, shares-le}
 

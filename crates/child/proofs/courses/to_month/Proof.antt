@@ -3,7 +3,6 @@
 use Prim.Native.Nat.{_-_}
 use native.Mathlib.Omega.{arith}
 use borrow.Author.Needs.{needs}
-use denote.Ref.{now}
 use Rattle.steps.specs.Steps.{stepsADay}
 use Rattle.child.proofs.CourseSteps.{InCourse, course-next, course-end}
 use Rattle.child.proofs.courses.to_month.Statement.{statement}
