@@ -2,3 +2,4 @@ pub mod Limited
 pub mod Putting
 pub mod Starts
 pub mod RowLaws
+pub mod RowValues

@@ -3,15 +3,14 @@
 use mathlib.Core.Path.{_≡_, ap}
 use mathlib.Core.Bool.{false}
 use mathlib.Core.List.{List}
-use Prim.Native.Nat.{ℕ, _+_, _<_}
+use Prim.Native.Nat.{ℕ, _<_}
 use native.Mathlib.Omega.{arith}
 use borrow.Author.Tests.{ltb-false}
-use Rattle.site.specs.Fields.{groups, singlesAt, motherAt, limits, byAge, single, airGroup, soilGroup, dustGroup, alternateGroup, dustModeAt, waterModeAt, constantAt, firstDrawShareAt, fountainShareAt, absorbedDustAt, absorbedSoilAt, saturationAt}
+use Rattle.site.specs.Fields.{groups, limits, byAge, single, airGroup, soilGroup, dustGroup, alternateGroup, dustModeAt, waterModeAt, constantAt, firstDrawShareAt, fountainShareAt, absorbedDustAt, absorbedSoilAt, saturationAt}
 use Rattle.site.specs.Put.{everyAge, singly}
 use Rattle.site.specs.Scenario.{scenarioOf}
 use Rattle.site.specs.Laws.{Fits, Plain}
 use Rattle.site.proofs.PutFits.{singly-fits, every-age-fits}
-use Rattle.site.proofs.FieldsWithin.{field-le}
 use Rattle.exposure.proofs.ExposureWithin.{exposure-within}
 use Rattle.card.specs.declared.Value.{Value}
 use Rattle.card.specs.declared.Value.the-variants.{Missing, Figure}
@@ -21,7 +20,7 @@ use Rattle.card.proofs.Rows.{row-read}
 use Rattle.cardsite.specs.Start.{startOf}
 use Rattle.cardsite.specs.Over.{overAges, overSingle, overLimit}
 use Rattle.cardsite.specs.Fields.{given, mediaFields, rowFields, rowScenario}
-use Rattle.cardsite.specs.Laws.{StartByBytes, RowFits, RowWithin, RowMother}
+use Rattle.cardsite.specs.Laws.{StartByBytes, RowFits, RowWithin}
 use Rattle.cardsite.proofs.Limited.{within}
 
 -- a value put in, where it is given
@@ -70,10 +69,6 @@ row-fits c passed fields was = row-fit c passed fields was
 pub row-within : RowWithin
 unfolding rowScenario scenarioOf
 row-within c passed s was age h = exposure-within (rowScenario c s) (row-fit c passed (s .fields) was .fit) age h
-
-pub row-mother : RowMother
-unfolding rowScenario scenarioOf limits
-row-mother c passed s was = field-le (rowFields c (s .fields)) (row-fit c passed (s .fields) was .fit) (singlesAt + motherAt) (omega arith)
 
 pub start-by-bytes : StartByBytes
 start-by-bytes row = ap startOf (row-read row)

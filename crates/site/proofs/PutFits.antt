@@ -78,7 +78,7 @@ put-from-other fields from v zero k h = refl
 put-from-other fields from v (suc n) k h =
     put-other (putFrom from n v fields) (from + n) v k (h n (omega arith)) ∙ put-from-other fields from v n k (λ j l. h j (omega arith))
 
-put-from-long : (fields : List ℕ) (from v n : ℕ) → length (putFrom from n v fields) ≡ length fields
+pub put-from-long : (fields : List ℕ) (from v n : ℕ) → length (putFrom from n v fields) ≡ length fields
 unfolding putFrom
 put-from-long fields from v zero = refl
 put-from-long fields from v (suc n) = length-set (putFrom from n v fields) (from + n) v ∙ put-from-long fields from v n
