@@ -6,12 +6,13 @@ use mathlib.Core.List.{List}
 use Prim.Native.Nat.{ℕ, _+_, _≤_, _<_}
 use native.Mathlib.Nat.{le-trans}
 use native.Mathlib.Omega.{arith}
-use lib.ListN.{getD}
+use lib.ListN.{length, getD}
 use lib.Dec.{leb}
 use borrow.Author.Tests.{leb-true}
 use Rattle.numbers.specs.Choice.{every}
-use Rattle.numbers.proofs.Every.{and-left, and-right, every-at}
+use Rattle.numbers.proofs.Every.{and-left, and-right, every-at, length-tab}
 use Rattle.numbers.proofs.Refusals.{firstOf-none, unless-none, answer-number, OfInput, unless-of-input, firstOf-of-input}
+use Rattle.block.specs.Block.{fieldsFrom}
 use Rattle.block.proofs.BlockRefusals.{block-of-input}
 use Rattle.block.proofs.Sealed.{accepted-check}
 use Rattle.site.specs.declared.Scenario.{Scenario}
@@ -19,7 +20,7 @@ use Rattle.site.specs.declared.SiteRead.{SiteRead}
 use Rattle.site.specs.Fields.{fieldCount, singlesAt, motherAt, at, limits, firstDrawShareIn, fountainShareIn, saturationIn, withinLimits, saturationFits, sharesFit, fieldsFit}
 use Rattle.site.specs.Scenario.{scenarioOf}
 use Rattle.site.specs.Site.{siteForm, siteFields, siteRefusals, siteRefusal, readAs, refusedWith, readSite}
-use Rattle.site.specs.Laws.{MotherWithin, RightCheck}
+use Rattle.site.specs.Laws.{MotherWithin, RightCheck, Fits}
 use Rattle.site.proofs.FieldTests.{fieldWithin}
 
 module _ (fields : List ℕ) (fit : fieldsFit fields ≡ true) where
@@ -69,6 +70,10 @@ module _ (site : List ℕ) (passed : siteRefusal site ≡ 0) where
   pub accepted-fit : fieldsFit (readSite site .scenario .fields) ≡ true
   unfolding scenarioOf
   accepted-fit = ap (λ (s : Scenario). fieldsFit (s .fields)) accepted-scenario ∙ fields-passed
+
+  pub accepted-fits : Fits (readSite site .scenario .fields)
+  unfolding scenarioOf fieldsFrom
+  accepted-fits = record { long = ap (λ (s : Scenario). length (s .fields)) accepted-scenario ∙ length-tab fieldCount _; fit = accepted-fit }
 
 pub mother-accepted : MotherWithin
 unfolding limits
