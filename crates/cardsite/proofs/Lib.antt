@@ -1,3 +1,4 @@
+pub mod CardBench
 pub mod Limited
 pub mod Putting
 pub mod Starts

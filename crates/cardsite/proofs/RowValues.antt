@@ -9,10 +9,9 @@ use native.Mathlib.Decide.{ℕ-discrete}
 use borrow.Author.Tests.{eq-eqb, ne-eqb}
 use lib.Dec.{eqb}
 use lib.ListN.{length, length-set}
-use Rattle.site.specs.declared.Scenario.{Scenario}
 use Rattle.site.specs.Fields.{lastAge, ages, groups, singlesAt, fieldCount, singles, at, byAge, single, airGroup, soilGroup, dustGroup, alternateGroup, dustModeAt, waterModeAt, constantAt, absorbedDustAt, absorbedSoilAt, motherAt}
 use Rattle.site.specs.Put.{everyAge, singly}
-use Rattle.site.specs.Scenario.{dustSourceOf, waterSourceOf, scenarioOf}
+use Rattle.site.specs.Scenario.{scenarioOf}
 use Rattle.site.proofs.PutFits.{every-age-puts, singly-puts, put-from-long}
 use Rattle.exposure.specs.Exposure.{exposureAt}
 use Rattle.card.specs.declared.Value.{Value}

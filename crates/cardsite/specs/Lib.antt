@@ -3,3 +3,4 @@ pub mod Over
 pub mod Start
 pub mod Fields
 pub mod Laws
+pub mod Bench
