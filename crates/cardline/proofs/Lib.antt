@@ -1,2 +1,4 @@
-pub mod RowLines
+pub mod CardBench
+pub mod FirstBytes
 pub mod PieceLines
+pub mod RowLines

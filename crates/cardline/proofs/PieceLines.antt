@@ -17,7 +17,7 @@ use Rattle.lines.specs.Walk.{walkOf, rowIn}
 use Rattle.lines.proofs.Reading.{rows-read, after-pieces, ended-pieces}
 use Rattle.lines.proofs.Walks.{walked}
 use Rattle.survey.specs.Survey.{rowAnswer, textAnswer}
-use Rattle.survey.proofs.RowsKept.{kept-law}
+use Rattle.survey.proofs.RowLaws.{kept-law}
 use Rattle.cardline.specs.Cardline.{rowLine, joined, cardPrintout}
 use Rattle.cardline.specs.Pieces.{textLines, walkLine, lineRead, nextLine, lastLine, pieceLines, printed}
 use Rattle.cardline.specs.Internal.{TextPut}

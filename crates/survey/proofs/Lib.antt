@@ -1,2 +1,2 @@
 pub mod RowAnswers
-pub mod RowsKept
+pub mod RowLaws

@@ -14,7 +14,7 @@ use Rattle.block.specs.Block.{fieldsFrom}
 use Rattle.site.specs.declared.Scenario.{Scenario}
 use Rattle.site.specs.Fields.{fieldCount}
 use Rattle.site.specs.Scenario.{scenarioOf}
-use Rattle.site.proofs.FieldsWithin.{accepted-scenario, accepted-fit}
+use Rattle.site.proofs.FieldsWithin.{accepted-scenario, accepted-fit, mother-accepted}
 use Rattle.book.proofs.RowsWithin.{rows-within}
 use Rattle.files.specs.declared.FilesRead.{FilesRead}
 use Rattle.files.specs.Files.{Files, filesRefusal, scenarioIn, tableIn}
@@ -33,7 +33,8 @@ use Rattle.cardsite.specs.declared.Start.the-variants as start
 use Rattle.cardsite.specs.Start.{startOf}
 use Rattle.cardsite.specs.Fields.{rowScenario}
 use Rattle.cardsite.specs.Laws.{Running}
-use Rattle.cardsite.proofs.RowLaws.{row-within, row-mother}
+use Rattle.cardsite.proofs.RowLaws.{row-within}
+use Rattle.cardsite.proofs.RowValues.{row-mother}
 use Rattle.survey.specs.declared.RowAnswer.{RowAnswer}
 use Rattle.survey.specs.declared.RowAnswer.the-variants.{Blood, Skipped, Refused}
 use Rattle.survey.specs.Survey.{courseAnswer, cardAnswer, startAnswer, textAnswer}
@@ -63,7 +64,7 @@ pub row-decoded : (c : Card) → Running c → (scenario : Scenario) (table : Li
 row-decoded c run scenario table ready =
     record {
       exposure = row-within c (run .within) scenario (ready .fields);
-      mother = row-mother c (run .within) scenario (ready .fields);
+      mother = rw (row-mother c scenario (ready .fields .long)) (ready .mother);
       row = ready .row;
     }
 
@@ -96,6 +97,7 @@ files-ready f passed =
             long = ap (λ (s : Scenario). length (s .fields)) (accepted-scenario (f .site) (site-passed f passed)) ∙ length-tab fieldCount _;
             fit = accepted-fit (f .site) (site-passed f passed);
           };
+      mother = mother-accepted (f .site) (site-passed f passed);
       row = rows-within (f .book) (book-passed f passed);
     }
 

@@ -3,7 +3,7 @@
 use borrow.Author.Needs.{needs}
 use mathlib.Core.Path.{_∙_}
 use Rattle.steps.specs.Steps.{stepsADay}
-use Rattle.survey.proofs.RowsKept.{kept-law}
+use Rattle.survey.proofs.RowLaws.{kept-law}
 use Rattle.survey.proofs.row_answer.Statement.{statement}
 use Rattle.survey.proofs.row_answer.Tie as tie
 
