@@ -26,6 +26,27 @@ use Rattle.text.proofs.DecimalIsWritten as text
 use Rattle.printout.proofs.LinesAreWhole as lines
 use Rattle.printout.proofs.FirstBytes as bytes
 use Rattle.printout.proofs.Bench as shown
+use Rattle.lines.proofs.Sense as sense
+use Rattle.lines.proofs.Feeding as feeding
+use Rattle.lines.proofs.Answering as answering
+use Rattle.lines.proofs.Reading as reading
+use Rattle.lines.proofs.Walks as walks
+use Rattle.lines.proofs.Worked as texts
+use Rattle.figures.proofs.Written as written
+use Rattle.figures.proofs.Only as only
+use Rattle.card.specs.declared.RowRead.{RowRead}
+use Rattle.card.proofs.Rows as card
+use Rattle.card.proofs.Worked as worked-card
+use Rattle.site.proofs.PutFits as put
+use Rattle.cardsite.proofs.Starts as starts
+use Rattle.cardsite.proofs.RowLaws as cardsite
+use Rattle.cardsite.proofs.RowValues as values
+use Rattle.cardsite.proofs.CardBench as worked-site
+use Rattle.child.proofs.CourseInRun as course
+use Rattle.survey.proofs.RowLaws as survey
+use Rattle.cardline.proofs.PieceLines as pieces
+use Rattle.cardline.proofs.FirstBytes as card-bytes
+use Rattle.cardline.proofs.CardBench as card-lines
 use Rattle.delivery.specs.Delivery.{Delivery}
 
 pub delivery : Delivery
@@ -73,6 +94,40 @@ delivery =
       printed-lines = lines.lines-law;
       first-bytes = bytes.first-bytes-law;
       shown-lines = shown.bench;
+      text-lines = sense.lines-law;
+      row-fields = sense.fields-law;
+      kept-row = feeding.fed-row;
+      kept-answers = answering.answers-law RowRead;
+      text-rows = reading.rows-read;
+      text-cuts = reading.cuts-law;
+      text-walk = walks.walked;
+      worked-texts = texts.worked-texts;
+      figure-written = written.written-law;
+      figure-star = written.star-law;
+      figure-whole = only.whole-law;
+      figure-alone = only.figure-law;
+      row-read = card.row-read;
+      text-read = card.text-read;
+      worked-rows = worked-card.worked-rows;
+      row-start = cardsite.start-by-bytes;
+      row-runs = starts.runs-within;
+      worked-starts = worked-site.bench;
+      every-age-fits = put.every-age-fits;
+      every-age-puts = put.every-age-puts;
+      singly-fits = put.singly-fits;
+      singly-puts = put.singly-puts;
+      row-fits = cardsite.row-fits;
+      row-exposure-within = cardsite.row-within;
+      row-exposures = values.row-exposures;
+      row-mother = values.row-mother;
+      course-in-run = course.course-law;
+      files-first = survey.files-first;
+      row-kept = survey.kept-law;
+      row-in-run = survey.run-law;
+      card-piece = pieces.piece-law;
+      card-pieces = pieces.pieces-law;
+      card-first-bytes = card-bytes.first-bytes-law;
+      card-shown = card-lines.bench;
       from-birth = demand3.from-birth;
       from-any-state = demand3.demand3;
       solution = margin.solution-law;

@@ -23,6 +23,18 @@ use Rattle.jurengate.specs.Laws as words
 use Rattle.text.specs.Laws as text
 use Rattle.printout.specs.Laws as printout
 use Rattle.printout.specs.Bench as lines
+use Rattle.lines.specs.Laws as texts
+use Rattle.lines.specs.Bench as workedTexts
+use Rattle.figures.specs.Laws as figures
+use Rattle.card.specs.declared.RowRead.{RowRead}
+use Rattle.card.specs.Laws as card
+use Rattle.card.specs.Bench as workedRows
+use Rattle.cardsite.specs.Laws as cardsite
+use Rattle.cardsite.specs.Bench as workedStarts
+use Rattle.child.specs.Laws as course
+use Rattle.survey.specs.Laws as survey
+use Rattle.cardline.specs.Laws as cardline
+use Rattle.cardline.specs.Bench as cardLines
 
 pub record Delivery : Type 0 where
   -- DEMAND 1. A site file, foods block, rate book or child's state of any length and content is either run or refused with the exact number
@@ -82,6 +94,48 @@ pub record Delivery : Type 0 where
   pub printed-lines : printout.LinesLaw
   pub first-bytes : printout.FirstBytesLaw
   pub shown-lines : lines.Bench
+  -- BATCH CARDS. A text of any length gives its rows, and a row its twelve fields; what is kept of a row, read a byte at a time in pieces of any size,
+  -- says what the row says
+  pub text-lines : texts.LinesLaw
+  pub row-fields : texts.FieldsLaw
+  pub kept-row : texts.SummaryLaw
+  pub kept-answers : texts.AnswersLaw RowRead
+  pub text-rows : texts.RowsLaw
+  pub text-cuts : texts.CutsLaw
+  pub text-walk : texts.WalkLaw
+  pub worked-texts : workedTexts.WorkedTexts
+  -- a figure is digits, then at most a point and one to three digits, and nothing else; an asterisk is a gap
+  pub figure-written : figures.WrittenLaw
+  pub figure-star : figures.StarLaw
+  pub figure-whole : figures.WholeLaw
+  pub figure-alone : figures.FigureLaw
+  -- a row's card, 12, skip and 7
+  pub row-read : card.RowReadLaw
+  pub text-read : card.TextReadLaw
+  pub worked-rows : workedRows.WorkedRows
+  pub row-start : cardsite.StartByBytes
+  pub row-runs : cardsite.RunsWithin
+  pub worked-starts : workedStarts.Bench
+  -- a figure put over a site file's fields, at every age or singly, stands there, keeps the others, and keeps them within limits
+  pub every-age-fits : site.EveryAgeFits
+  pub every-age-puts : site.EveryAgePuts
+  pub singly-fits : site.SinglyFits
+  pub singly-puts : site.SinglyPuts
+  -- so a row's scenario is within limits; it has the row's figures at every age, the site file's own at a gap, and both modes 0
+  pub row-fits : cardsite.RowFits
+  pub row-exposure-within : cardsite.RowWithin
+  pub row-exposures : cardsite.RowExposures
+  pub row-mother : cardsite.RowMother
+  -- a child's course up to a month is as in a run; refused files refuse every row; a row that changes nothing has the run's figure at its AGE
+  pub course-in-run : course.CourseLaw
+  pub files-first : survey.FilesFirst
+  pub row-kept : survey.KeptLaw
+  pub row-in-run : survey.RunLaw
+  -- the printout of a card is made line by line of a text in any pieces; the bytes that are enough to read; lines and texts that the request shows
+  pub card-piece : cardline.PieceLaw
+  pub card-pieces : cardline.PiecesLaw
+  pub card-first-bytes : cardline.FirstBytesLaw
+  pub card-shown : cardLines.Bench
   -- DEMAND 3. Over any list of month calls, refused ones among them: lead balances to the picogram between any two month ends, each ledger grows
   -- by its own exits, and after every step plasma lies within the stated margin of the exact backward Euler solution
   pub from-birth : conservation.FromBirth
