@@ -161,7 +161,7 @@ fn state(tape: &mut Tape) -> State {
 
 /// A random row, whole or with faults, mostly of a child so young that its months are few.
 fn row(tape: &mut Tape) -> Vec<u8> {
-    let (range, faults, age) = (Range::of_turn(tape.index(3)), tape.index(4) / 2, tape.index(16));
+    let (range, faults, age) = (Range::of_turn(tape.index(3)), tape.index(6) / 2, tape.index(16));
     let mut generator = Generator::new(tape.word().into());
     let mut texts = random::field_texts(&mut generator, range);
     if age > 0 {
