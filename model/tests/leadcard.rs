@@ -76,10 +76,9 @@ fn missing_files_count_as_empty() {
     let (site, book) = (published::site(), curves::book());
     let text = format!("{HEADINGS}{ROW}\n\n{ROW}");
     for set in 0..8 {
-        let there = |bit: usize, bytes: &'static str| (set >> bit & 1 == 1).then_some(bytes);
-        let [site, book] =
-            [(0, &site), (1, &book)].map(|(bit, bytes)| there(bit, "").map(|_| bytes.as_slice()));
-        let text = there(2, "").map(|_| text.as_bytes());
+        let there = |bit: usize, bytes| (set >> bit & 1 == 1).then_some(bytes);
+        let (site, book) = (there(0, site.as_slice()), there(1, book.as_slice()));
+        let text = there(2, text.as_bytes());
         let printed = compare(&format!("missing-{set}"), site, book, text);
         let lines: Vec<&str> = printed.lines().collect();
         match (text, site.and(book)) {
@@ -538,6 +537,13 @@ fn a_text_that_comes_through_a_pipe_in_two_parts() {
     let writers = [pipe(&folder, "site.lkb", &site, 100), pipe(&folder, "book.lkb", &book, 5_000)];
     LEADCARD.compare(folder.path(), &card_printout(&site, &book, text.as_bytes()), "files in two parts");
     writers.into_iter().for_each(|writer| writer.join().expect("the file was written whole"));
+}
+
+#[test]
+fn the_sample_survey_prints_what_is_stored() {
+    let sample = repository::at("samples/survey");
+    let due = fs::read(sample.join("cardout.txt")).expect("the sample's rows");
+    LEADCARD.compare(&sample, &due, "the sample survey");
 }
 
 /// Bytes of resident memory that a process has had at most.

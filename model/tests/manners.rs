@@ -1,4 +1,4 @@
-//! How the programs take their words: `modelline`, `modelcard`, `soak`, `bench`, `fuzz/run`, and the build without a library.
+//! How the programs take their words: `modelline`, `modelcard`, `soak`, `bench`, `fuzz/run`, `bench/leadcard`, and the build without a library.
 
 #[path = "support/folder.rs"]
 mod folder;
@@ -32,13 +32,14 @@ fn run(program: impl AsRef<Path>, words: &[&str]) -> Told {
 
 #[test]
 fn help_is_printed() {
-    let fuzz = repository::at("fuzz/run");
+    let (fuzz, bench) = (repository::at("fuzz/run"), repository::at("bench/leadcard"));
     let usages = [
         (Path::new(MODELLINE), "usage: modelline "),
         (Path::new(MODELCARD), "usage: modelcard "),
         (Path::new(SOAK), "usage: soak ["),
         (Path::new(BENCH), "usage: bench "),
         (&fuzz, "usage: fuzz/run ["),
+        (&bench, "usage: bench/leadcard ["),
     ];
     for (program, usage) in usages {
         for option in ["--help", "-h"] {
@@ -52,8 +53,8 @@ fn help_is_printed() {
 /// Each word is told, and nothing is run.
 #[test]
 fn words_that_cannot_be_used_are_errors() {
-    let fuzz = repository::at("fuzz/run");
-    let cases: [(&Path, &[&str], &str); 15] = [
+    let (fuzz, bench) = (repository::at("fuzz/run"), repository::at("bench/leadcard"));
+    let cases: [(&Path, &[&str], &str); 17] = [
         (Path::new(SOAK), &["many"], "soak: `many` is no number from 1 to 4294967295\n"),
         (Path::new(SOAK), &["0"], "soak: `0` is no number from 1"),
         (Path::new(SOAK), &["1", "-1"], "soak: `-1` is no number from 0"),
@@ -69,6 +70,8 @@ fn words_that_cannot_be_used_are_errors() {
         (&fuzz, &[""], "fuzz: '' is no number of seconds from 1 up"),
         (&fuzz, &["--selfcheck"], "fuzz: '--selfcheck' is no number"),
         (&fuzz, &["1", "2"], "fuzz: one word is due at most"),
+        (&bench, &["0"], "bench/leadcard: one number of megabytes is due at most\n"),
+        (&bench, &["1", "2"], "bench/leadcard: one number of megabytes is due at most\n"),
     ];
     for (program, words, due) in cases {
         let (status, output, errors) = run(program, words);

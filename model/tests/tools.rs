@@ -1,4 +1,4 @@
-//! The programs `makecard` and `modelline` together, run as a user runs them.
+//! The programs `makecard`, `modelline` and `modelcard` together, run as a user runs them.
 
 #[path = "support/folder.rs"]
 mod folder;
@@ -11,6 +11,7 @@ use folder::Folder;
 use jurengate_model::cards::published;
 use samples::{folders, stored};
 use std::fs;
+use std::path::Path;
 use std::process::{Command, Output};
 
 fn makecard(arguments: &[&str], folder: &Folder) -> Output {
@@ -21,6 +22,11 @@ fn makecard(arguments: &[&str], folder: &Folder) -> Output {
 fn modelline(folder: &Folder) -> Output {
     let program = env!("CARGO_BIN_EXE_modelline");
     Command::new(program).current_dir(folder.path()).output().expect("modelline runs")
+}
+
+fn modelcard(folder: &Path) -> Output {
+    let program = env!("CARGO_BIN_EXE_modelcard");
+    Command::new(program).current_dir(folder).output().expect("modelcard runs")
 }
 
 fn printed(output: Output) -> String {
@@ -55,4 +61,19 @@ fn modelline_takes_missing_files_for_empty_ones() {
     assert_eq!(printed(modelline(&folder)), "refused 1 after 0\n");
     folder.write("site.lkb", &published::site());
     assert_eq!(printed(modelline(&folder)), "refused 1 after 0\n");
+}
+
+#[test]
+fn modelcard_prints_the_stored_survey() {
+    let sample = repository::at("samples/survey");
+    let due = String::from_utf8(stored(&sample, "cardout.txt")).expect("text");
+    assert_eq!(printed(modelcard(&sample)), due);
+}
+
+#[test]
+fn modelcard_takes_missing_files_for_empty_ones() {
+    let folder = Folder::new("empty-survey");
+    assert_eq!(printed(modelcard(folder.path())), "");
+    folder.write("card.txt", b"\n\n\n\nA");
+    assert_eq!(printed(modelcard(folder.path())), "refused 1\nrefused 1\n");
 }
