@@ -553,14 +553,14 @@ fn peak_memory(process: u32) -> usize {
     1_024 * line.split_whitespace().nth(1).and_then(|kilobytes| kilobytes.parse::<usize>().ok()).expect("kB")
 }
 
-/// Memory that more text may take: none, but for the noise of pages.
-const MORE_MEMORY: usize = 64 * 1_024;
+/// Memory that more text may seem to take: none, but that the system counts pages by and by.
+const MORE_MEMORY: usize = 1_024 * 1_024;
 
 /// A text of some megabytes takes no more memory than its first hundred kilobytes did, and prints a line for each row.
 #[test]
 fn memory_stays_flat_over_megabytes() {
     let rows = format!("{ROW}\nA1 1 1 1 200 x * * * * * *\n{}\n", " ".repeat(4_000));
-    let (first, more) = (rows.repeat(25), rows.repeat(1_000));
+    let (first, more) = (rows.repeat(25), rows.repeat(1_500));
     let folder = card("megabytes", Some(&published::site()), Some(&curves::book()), None);
     let path = make_pipe(&folder, "card.txt");
     let mut child = LEADCARD
@@ -583,7 +583,7 @@ fn memory_stays_flat_over_megabytes() {
         peak_memory(child.id())
     };
     let at_first = write(&format!("{HEADINGS}{first}"));
-    let (then, long) = (write(&more), write(&" ".repeat(2_000_000)));
+    let (then, long) = (write(&more), write(&" ".repeat(4_000_000)));
     drop(pipe);
     assert!(child.wait().expect("the program ends").success());
     assert!(
@@ -592,9 +592,9 @@ fn memory_stays_flat_over_megabytes() {
     );
     let printed = reader.join().expect("the lines were read");
     let lines: Vec<&str> = printed.lines().collect();
-    assert_eq!(lines.len(), 3 * 1_025 + 1);
+    assert_eq!(lines.len(), 3 * 1_525 + 1);
     for (index, line) in lines.iter().enumerate() {
-        let due = if index % 3 == 0 && index < 3 * 1_025 { lines[0] } else { "refused 12" };
+        let due = if index % 3 == 0 && index < 3 * 1_525 { lines[0] } else { "refused 12" };
         assert_eq!(*line, due, "row {index}");
     }
     assert!(lines[0].contains('.'));

@@ -1,7 +1,7 @@
 //! Random rows of batch cards: figures written in every way, gaps, and what is wrong with a row.
 
 use super::{Generator, Range};
-use crate::card::{field, Form, CARD_FIELDS, FIELD_MOST, FORMS, GOES};
+use crate::card::{field, Form, CARD_FIELDS, FIELD_MOST, FORMS, GOES, HEADING_LINES};
 use crate::site;
 use crate::state::MONTHS;
 
@@ -11,6 +11,9 @@ pub type FieldTexts = Vec<Vec<u8>>;
 /// What a row of a survey would have, in thousandths of its units: the most of each figure.
 const USUAL: [u64; CARD_FIELDS] =
     [0, 99_000, 99_000, 84_000, 2_000_000, 2_000_000, 40_000, 1_000, 30_000, 40_000, 60_000, 60_000];
+
+/// The largest figure of eight bytes, in thousandths.
+const LARGEST: u64 = 99_999_999_000;
 
 /// What may stand in no field but ID: each is no figure.
 pub const NO_FIGURES: [&[u8]; 24] = [
@@ -142,18 +145,17 @@ pub fn break_texts(texts: &mut FieldTexts, faults: &[TextFault]) {
 
 fn break_text(texts: &mut FieldTexts, fault: TextFault) {
     match fault {
-        TextFault::Lost(place) => drop(texts.drain(place.min(texts.len())..texts.len().min(place + 1))),
-        TextFault::More(place) => texts.insert(place, b"1".to_vec()),
+        TextFault::Lost(place) if place < texts.len() => drop(texts.remove(place)),
+        TextFault::Tab(place) if place + 1 < texts.len() => {
+            let next = texts.remove(place + 1);
+            texts[place] = [texts[place].as_slice(), &next].join(&b'\t');
+        }
+        // Another fault has taken the field already.
+        TextFault::Lost(_) | TextFault::Tab(_) => {}
+        TextFault::More(place) => texts.insert(place.min(texts.len()), b"1".to_vec()),
         TextFault::Long(place) => texts[place] = b"000000001".to_vec(),
         TextFault::NoFigure(place, what) => texts[place] = NO_FIGURES[what].to_vec(),
         TextFault::Point(place) => texts[place] = b"30.0".to_vec(),
-        TextFault::Tab(place) => {
-            let joined = texts
-                .drain(place.min(texts.len())..texts.len().min(place + 2))
-                .collect::<Vec<_>>()
-                .join(&b'\t');
-            texts.insert(place.min(texts.len()), joined);
-        }
         TextFault::Return => texts.last_mut().expect("a row has fields").push(b'\r'),
         TextFault::AgeGap => texts[field::AGE] = b"*".to_vec(),
         TextFault::AgeOutside(which) => texts[field::AGE] = AGES_OUTSIDE[which].as_bytes().to_vec(),
@@ -200,18 +202,18 @@ fn limit(place: usize) -> Option<u64> {
 }
 
 fn figure(generator: &mut Generator, range: Range, place: usize) -> Vec<u8> {
-    let unlimited = if range == Range::Near { USUAL[place] } else { 99_999_999_000 };
-    let most = limit(place).unwrap_or(unlimited);
+    let most = limit(place).unwrap_or(LARGEST);
     let thousandths = match range {
-        Range::Near => generator.between(0, USUAL[place].min(most)),
+        Range::Near => generator.between(0, USUAL[place]),
         Range::Wide => generator.sized(most),
         Range::Limits => generator.at_limits(most),
     };
-    let whole = FORMS[place] == Form::Whole || generator.once_in(3);
-    if FORMS[place] == Form::Whole {
-        return (thousandths / 1_000).to_string().into_bytes();
+    let wholes = thousandths / 1_000;
+    match FORMS[place] {
+        Form::Whole => wholes.to_string().into_bytes(),
+        _ if generator.once_in(3) => written(generator, 1_000 * wholes),
+        _ => written(generator, thousandths),
     }
-    written(generator, if whole { thousandths / 1_000 * 1_000 } else { thousandths })
 }
 
 /// An age: a month of the run, seldom any other.
@@ -225,15 +227,20 @@ fn age(generator: &mut Generator, range: Range) -> Vec<u8> {
     format!("{age:0>width$}").into_bytes()
 }
 
+fn any_but_line_feed(generator: &mut Generator) -> u8 {
+    match generator.any() as u8 {
+        b'\n' => b'\r',
+        byte => byte,
+    }
+}
+
 /// Any text without a space or a line feed.
 fn name(generator: &mut Generator) -> Vec<u8> {
     let length = generator.between(1, FIELD_MOST as u64);
-    let mut byte = || loop {
-        let byte =
-            if generator.once_in(3) { generator.any() as u8 } else { generator.between(33, 126) as u8 };
-        if byte != b' ' && byte != b'\n' {
-            return byte;
-        }
+    let mut byte = || match any_but_line_feed(generator) {
+        b' ' => b'_',
+        byte if generator.once_in(3) => byte,
+        _ => generator.between(33, 126) as u8,
     };
     (0..length).map(|_| byte()).collect()
 }
@@ -276,7 +283,7 @@ pub fn survey_row(generator: &mut Generator, range: Range, faults: usize) -> Vec
     joined(generator, &texts)
 }
 
-/// Turns, drops or doubles some bytes of a row, whatever comes of it; no line feed is put in.
+/// Turns, drops or puts in some bytes of a row or a text, whatever comes of it; no line feed is put in.
 pub fn scratched(generator: &mut Generator, mut row: Vec<u8>) -> Vec<u8> {
     for _ in 0..=generator.index(3) {
         let at = generator.index(row.len() + 1);
@@ -284,7 +291,7 @@ pub fn scratched(generator: &mut Generator, mut row: Vec<u8>) -> Vec<u8> {
             0 => b' ',
             1 => b"*.-0159\t\r\0"[generator.index(10)],
             2 => generator.between(b'0'.into(), b'9'.into()) as u8,
-            _ => generator.any() as u8,
+            _ => any_but_line_feed(generator),
         };
         match generator.index(3) {
             0 if at < row.len() => drop(row.remove(at)),
@@ -292,7 +299,6 @@ pub fn scratched(generator: &mut Generator, mut row: Vec<u8>) -> Vec<u8> {
             _ => row.insert(at, byte),
         }
     }
-    row.retain(|&byte| byte != b'\n');
     row
 }
 
@@ -315,7 +321,7 @@ pub fn any_row(generator: &mut Generator, range: Range) -> Vec<u8> {
 pub fn survey(generator: &mut Generator, range: Range, rows: usize) -> Vec<u8> {
     let headings = ["", "a survey", "ID FAM BLOCK AGE", "1 2 3 4 5 6 7 8 9 10 11 12", "\r", " "];
     let mut lines: Vec<Vec<u8>> = Vec::new();
-    for _ in 0..crate::card::HEADING_LINES {
+    for _ in 0..HEADING_LINES {
         lines.push(headings[generator.index(headings.len())].as_bytes().to_vec());
     }
     lines.extend((0..rows).map(|_| any_row(generator, range)));
