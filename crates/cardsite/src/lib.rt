@@ -82,56 +82,56 @@ fn over_limit(card: Card) -> bool
 }
 
 // A figure, where one is given, at every age of the group from a place on.
-fn every_age_given(fields: [u32; FIELDS], group: usize, v: Value) -> [u32; FIELDS]
+fn every_age_given(fields: &mut [u32; FIELDS], group: usize, v: Value)
     requires { ⌜ (group + ages ≤ fieldCount) × (over (at limits group) v ≡ false) ⌝ }
-    ensures { λ r. ⌜ r ≡ given (putFrom group ages) v fields ⌝ }
+    ensures { λ _. ⌜ now (fields .exit) ≡ given (putFrom group ages) v (now (fields .entry)) ⌝ }
 {
     match v {
-        Value::Missing => fields,
+        Value::Missing => {}
         Value::Figure(n) => site::put::every_age(fields, group, n as u32),
     }
 }
 
 // A figure, where one is given, at one place.
-fn singly_given(fields: [u32; FIELDS], place: usize, v: Value) -> [u32; FIELDS]
+fn singly_given(fields: &mut [u32; FIELDS], place: usize, v: Value)
     requires { ⌜ (place < fieldCount) × (over (at limits place) v ≡ false) ⌝ }
-    ensures { λ r. ⌜ r ≡ given (λ n l. set l place n) v fields ⌝ }
+    ensures { λ _. ⌜ now (fields .exit) ≡ given (λ n l. set l place n) v (now (fields .entry)) ⌝ }
 {
     match v {
-        Value::Missing => fields,
+        Value::Missing => {}
         Value::Figure(n) => site::put::singly(fields, place, n as u32),
     }
 }
 
 // The card's figures of what is eaten and breathed, over a site file's fields.
-fn media_fields(card: Card, fields: [u32; FIELDS]) -> [u32; FIELDS]
+fn put_media(card: Card, fields: &mut [u32; FIELDS])
     requires { ⌜ overLimit card ≡ false ⌝ }
-    ensures { λ r. ⌜ r ≡ mediaFields card fields ⌝ }
+    ensures { λ _. ⌜ now (fields .exit) ≡ mediaFields card (now (fields .entry)) ⌝ }
 {
     let soil = card::soil_of(card);
     let dust = card::dust_of(card);
     let air = card.air;
     let other = card.other;
     let water = card.water;
-    let with_soil = every_age_given(fields, places::SOIL, soil);
-    let with_dust = every_age_given(with_soil, places::DUST, dust);
-    let with_air = every_age_given(with_dust, places::AIR, air);
-    let with_other = every_age_given(with_air, places::ALTERNATE, other);
-    singly_given(with_other, places::CONSTANT, water)
+    every_age_given(fields, places::SOIL, soil);
+    every_age_given(fields, places::DUST, dust);
+    every_age_given(fields, places::AIR, air);
+    every_age_given(fields, places::ALTERNATE, other);
+    singly_given(fields, places::CONSTANT, water);
 }
 
 // A card over a site file's fields, with both modes 0.
-fn row_fields(card: Card, fields: [u32; FIELDS]) -> [u32; FIELDS]
+fn put_row(card: Card, fields: &mut [u32; FIELDS])
     requires { ⌜ overLimit card ≡ false ⌝ }
-    ensures { λ r. ⌜ r ≡ rowFields card fields ⌝ }
+    ensures { λ _. ⌜ now (fields .exit) ≡ rowFields card (now (fields .entry)) ⌝ }
 {
     let abssoil = card.abssoil;
     let absdust = card.absdust;
-    let media = media_fields(card, fields);
-    let with_soil = singly_given(media, ABSORBED_SOIL, abssoil);
-    let with_dust = singly_given(with_soil, ABSORBED_DUST, absdust);
-    let dust_mode = site::put::singly(with_dust, places::DUST_MODE, MODE);
-    site::put::singly(dust_mode, places::WATER_MODE, MODE)
+    put_media(card, fields);
+    singly_given(fields, ABSORBED_SOIL, abssoil);
+    singly_given(fields, ABSORBED_DUST, absdust);
+    site::put::singly(fields, places::DUST_MODE, MODE);
+    site::put::singly(fields, places::WATER_MODE, MODE);
 }
 
 // The scenario of a row: that of its fields, with the diets that the files give.
@@ -139,9 +139,9 @@ pub fn row_scenario(card: Card, scenario: Scenario) -> Scenario
     requires { ⌜ overLimit card ≡ false ⌝ }
     ensures { λ r. ⌜ r ≡ rowScenario card scenario ⌝ }
 {
-    let site_fields = scenario.fields;
     let diets = scenario.diets;
-    let fields = row_fields(card, site_fields);
+    let mut fields = scenario.fields;
+    put_row(card, &mut fields);
     let own = site::scenario_of(fields);
     let dust_source = own.dust_source;
     let water_source = own.water_source;

@@ -115,12 +115,11 @@ every-age-fits fields was g h v l =
 pub record InAges (group v : ℕ) (fields changed : List ℕ) (age : ℕ) : Type 0 where
   pub room : group + ages ≤ fieldCount
   pub reach : age ≤ ages
-  pub long : length changed ≡ fieldCount
   pub same : changed ≡ putFrom group age v fields
 
-pub ages-none : (group v : ℕ) (fields : List ℕ) → group + ages ≤ fieldCount → length fields ≡ fieldCount → InAges group v fields fields 0
+pub ages-none : (group v : ℕ) (fields : List ℕ) → group + ages ≤ fieldCount → InAges group v fields fields 0
 unfolding putFrom
-ages-none group v fields room long = record { room = room; reach = omega arith; long = long; same = refl }
+ages-none group v fields room = record { room = room; reach = omega arith; same = refl }
 
 module _ {group v : ℕ} {fields changed : List ℕ} {age : ℕ} (inv : InAges group v fields changed age) where
   pub ages-next : age < ages → InAges group v fields (set changed (group + age) v) (age + 1)
@@ -129,7 +128,6 @@ module _ {group v : ℕ} {fields changed : List ℕ} {age : ℕ} (inv : InAges g
       record {
         room = inv .room;
         reach = omega arith;
-        long = length-set changed (group + age) v ∙ inv .long;
         same = rw add-one (ap (λ (l : List ℕ). set l (group + age) v) (inv .same));
       }
 

@@ -7,25 +7,21 @@ ghost use Rattle.site.specs.Fields.{ages, fieldCount};
 ghost use Rattle.site.specs.Put.{putFrom};
 
 // A figure at every age of the group from a place on.
-pub fn every_age(fields: [u32; places::FIELDS], group: usize, figure: u32) -> [u32; places::FIELDS]
+pub fn every_age(fields: &mut [u32; places::FIELDS], group: usize, figure: u32)
     requires { ⌜ group + ages ≤ fieldCount ⌝ }
-    ensures { λ r. ⌜ r ≡ putFrom group ages figure fields ⌝ }
+    ensures { λ _. ⌜ now (fields .exit) ≡ putFrom group ages figure (now (fields .entry)) ⌝ }
 {
-    let mut changed = fields;
     let mut age: usize = 0;
     while age < places::AGES {
-        changed[group + age] = figure;
+        fields[group + age] = figure;
         age = age + 1;
     }
-    changed
 }
 
 // A figure at one place.
-pub fn singly(fields: [u32; places::FIELDS], place: usize, figure: u32) -> [u32; places::FIELDS]
+pub fn singly(fields: &mut [u32; places::FIELDS], place: usize, figure: u32)
     requires { ⌜ place < fieldCount ⌝ }
-    ensures { λ r. ⌜ r ≡ set fields place figure ⌝ }
+    ensures { λ _. ⌜ now (fields .exit) ≡ set (now (fields .entry)) place figure ⌝ }
 {
-    let mut changed = fields;
-    changed[place] = figure;
-    changed
+    fields[place] = figure;
 }

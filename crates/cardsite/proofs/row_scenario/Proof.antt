@@ -5,16 +5,17 @@ use Rattle.cardsite.proofs.Putting.{scenario-is}
 use Rattle.cardsite.proofs.row_scenario.Statement.{statement}
 use Rattle.cardsite.proofs.row_scenario.Tie as tie
 
-row-fields-requires : tie.Need-row-fields-requires
-row-fields-requires c κs = search needs
+put-row-requires : tie.Need-put-row-requires
+put-row-requires c κs = search needs
 
 scenario-of-requires : tie.Need-scenario-of-requires
 scenario-of-requires c κs = search needs
 
 returns : tie.Need-returns
 returns c =
-    let start = c .before .before .before .before in
-    scenario-is (start .args .card) (start .args .scenario) (c .before .row-fields .ensures) (c .scenario-of .ensures)
+    let put = c .before in
+    let start = put .before .before .before .before in
+    scenario-is (start .args .card) (start .args .scenario) (put .put-row .ensures) (c .scenario-of .ensures)
 
 pub row-scenario-spec : {M : Type 1} → statement M
-row-scenario-spec = tie.close (tie.spec row-fields-requires scenario-of-requires returns)
+row-scenario-spec = tie.close (tie.spec put-row-requires scenario-of-requires returns)

@@ -9,22 +9,22 @@ use Rattle.site.proofs.put.every_age.Statement.{statement}
 use Rattle.site.proofs.put.every_age.Tie as tie
 
 abbrev Inv-loop : tie.InvT-loop
-Inv-loop group figure changed₀ age₀ changed age = InAges group figure changed₀ changed age
+Inv-loop fields₀ group figure age₀ fields age = InAges group figure fields₀ fields age
 
 abbrev μ-loop : tie.MeasureT-loop
-μ-loop group figure changed₀ age₀ changed age = ages - age
+μ-loop fields₀ group figure age₀ fields age = ages - age
 
 loop-holds : tie.Need-loop-holds Inv-loop μ-loop
-loop-holds c = ages-none _ _ _ (c .pre) (search needs)
+loop-holds c = ages-none _ _ _ (c .pre)
 
-add-changed : tie.Need-add-changed Inv-loop μ-loop
-add-changed c = search needs
+add-fields : tie.Need-add-fields Inv-loop μ-loop
+add-fields c = search needs
 
-mul-changed : tie.Need-mul-changed Inv-loop μ-loop
-mul-changed c = search needs
+mul-fields : tie.Need-mul-fields Inv-loop μ-loop
+mul-fields c = search needs
 
-array-write-changed : tie.Need-array-write-changed Inv-loop μ-loop
-array-write-changed c = search needs
+element-write-fields : tie.Need-element-write-fields Inv-loop μ-loop
+element-write-fields c = search needs
 
 add-age : tie.Need-add-age Inv-loop μ-loop
 add-age c = search needs
@@ -45,9 +45,9 @@ every-age-spec =
     Inv-loop
     μ-loop
     loop-holds
-    add-changed
-    mul-changed
-    array-write-changed
+    add-fields
+    mul-fields
+    element-write-fields
     add-age
     loop-less
     loop-again
