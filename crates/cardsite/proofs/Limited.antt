@@ -46,7 +46,7 @@ pub record Within (c : Card) : Type 0 where
   pub absdust : overSingle absorbedDustAt (c .absdust) ≡ false
 
 -- one of two tests holds, or neither
-or-none : (a b : Bool) → a || b ≡ false → (a ≡ false) × (b ≡ false)
+pub or-none : (a b : Bool) → a || b ≡ false → (a ≡ false) × (b ≡ false)
 or-none false b e = (refl, e)
 or-none true b e = absurd (true≢false e)
 

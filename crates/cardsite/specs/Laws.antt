@@ -20,7 +20,7 @@ use Rattle.card.specs.declared.Value.the-variants.{Missing, Figure}
 use Rattle.card.specs.declared.Card.{Card}
 use Rattle.card.specs.declared.RowRead.{RowRead}
 use Rattle.card.specs.Row.{readRow, readText}
-use Rattle.card.specs.Values.{soilIn, dustIn, skipped}
+use Rattle.card.specs.Values.{monthsOf, soilIn, dustIn, skipped}
 use Rattle.cardsite.specs.declared.Start.the-variants.{Runs}
 use Rattle.cardsite.specs.Start.{startOf}
 use Rattle.cardsite.specs.Over.{overLimit}
@@ -30,10 +30,12 @@ use Rattle.cardsite.specs.Fields.{rowFields, rowScenario}
 abbrev pub StartByBytes : Type 0
 StartByBytes = (row : List ℕ) → startOf (readText (summaryOf row)) ≡ startOf (readRow row)
 
--- a card that runs is not skipped, and none of its figures is over its limit
+-- a card that runs is not skipped, none of its figures is over its limit, and it has an AGE from 1 to 84 months
 pub record Running (c : Card) : Type 0 where
   pub runs : skipped c ≡ false
   pub within : overLimit c ≡ false
+  pub first : 1 ≤ monthsOf (c .age)
+  pub last : monthsOf (c .age) ≤ 84
 
 abbrev pub RunsWithin : Type 0
 RunsWithin = (r : RowRead) (c : Card) → startOf r ≡ Runs c → Running c

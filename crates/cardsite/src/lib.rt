@@ -22,8 +22,8 @@ const ABSORBED_DUST: usize = places::ABSORBED + 2;
 
 const ABSORBED_SOIL: usize = places::ABSORBED + 3;
 
-// The mode in which dust is a given figure, and water a constant one.
-const MODE: u32 = 0;
+// "Both modes are 0 even at a gap": dust is a given figure, and water a constant one.
+const BOTH_MODES: u32 = 0;
 
 // A card's figure over its limit.
 const OVER_LIMIT: u32 = 7;
@@ -130,8 +130,8 @@ fn put_row(card: Card, fields: &mut [u32; FIELDS])
     put_media(card, fields);
     singly_given(fields, ABSORBED_SOIL, abssoil);
     singly_given(fields, ABSORBED_DUST, absdust);
-    site::put::singly(fields, places::DUST_MODE, MODE);
-    site::put::singly(fields, places::WATER_MODE, MODE);
+    site::put::singly(fields, places::DUST_MODE, BOTH_MODES);
+    site::put::singly(fields, places::WATER_MODE, BOTH_MODES);
 }
 
 // The scenario of a row: that of its fields, with the diets that the files give.

@@ -5,7 +5,7 @@ use mathlib.Core.List.{List, [], _∷_}
 use Rattle.site.specs.declared.DustSource.{DustSource}
 use Rattle.site.specs.declared.WaterSource.{WaterSource}
 use Rattle.site.specs.declared.Scenario.{Scenario}
-use Rattle.site.specs.Fields.{at, byAge, single, firstDrawShareIn, fountainShareIn, saturationIn}
+use Rattle.site.specs.Fields.{at, byAge, single, airGroup, soilGroup, dustGroup, alternateGroup, constantAt, absorbedAt, firstDrawShareIn, fountainShareIn, saturationIn}
 use Rattle.exposure.specs.declared.Exposure.{Exposure}
 
 -- the percentages of the five eaten media, diet, water, dust, soil, alternate: five single fields from k
@@ -16,29 +16,29 @@ percentagesFrom fields k = single fields k ∷ single fields (k + 1) ∷ single 
 abbrev pub exposureFrom : List ℕ → List ℕ → DustSource → WaterSource → ℕ → Exposure
 exposureFrom fields diets dustSource waterSource age =
     record {
-      air = byAge fields 0 age;
+      air = byAge fields airGroup age;
       «hours_out» = byAge fields 1 age;
       breathing = byAge fields 2 age;
       «air_absorption» = byAge fields 3 age;
       diet = at diets age;
       water = byAge fields 5 age;
-      soil = byAge fields 6 age;
-      dust = byAge fields 7 age;
+      soil = byAge fields soilGroup age;
+      dust = byAge fields dustGroup age;
       eaten = byAge fields 8 age;
-      alternate = byAge fields 9 age;
+      alternate = byAge fields alternateGroup age;
       indoor = single fields 0;
       «weight_soil» = single fields 1;
       contribution = single fields 2;
       «air_to_dust» = single fields 3;
       «dust_source» = dustSource;
       «water_source» = waterSource;
-      constant = single fields 6;
+      constant = single fields constantAt;
       flushed = single fields 7;
       «first_draw» = single fields 8;
       fountain = single fields 9;
       «first_draw_share» = firstDrawShareIn fields;
       «fountain_share» = fountainShareIn fields;
-      absorbed = percentagesFrom fields 12;
+      absorbed = percentagesFrom fields absorbedAt;
       passive = percentagesFrom fields 17;
       saturation = saturationIn fields;
     }
