@@ -8,7 +8,7 @@ use native.Mathlib.Omega.{arith}
 use borrow.Author.Tests.{ltb-false}
 use Rattle.site.specs.Fields.{groups, limits, byAge, single, airGroup, soilGroup, dustGroup, alternateGroup, dustModeAt, waterModeAt, constantAt, firstDrawShareAt, fountainShareAt, absorbedDustAt, absorbedSoilAt, saturationAt}
 use Rattle.site.specs.Put.{everyAge, singly}
-use Rattle.site.specs.Scenario.{scenarioOf}
+use Rattle.site.specs.Scenario.{scenarioOf, withDiets}
 use Rattle.site.specs.Laws.{Fits, Plain}
 use Rattle.site.proofs.PutFits.{singly-fits, every-age-fits}
 use Rattle.exposure.proofs.ExposureWithin.{exposure-within}
@@ -16,11 +16,9 @@ use Rattle.card.specs.declared.Value.{Value}
 use Rattle.card.specs.declared.Value.the-variants.{Missing, Figure}
 use Rattle.card.specs.declared.Card.{Card}
 use Rattle.card.specs.Values.{soilIn, dustIn}
-use Rattle.card.proofs.Rows.{row-read}
-use Rattle.cardsite.specs.Start.{startOf}
 use Rattle.cardsite.specs.Over.{overAges, overSingle, overLimit}
 use Rattle.cardsite.specs.Fields.{given, mediaFields, rowFields, rowScenario}
-use Rattle.cardsite.specs.Laws.{StartByBytes, RowFits, RowWithin}
+use Rattle.cardsite.specs.Laws.{RowFits, RowWithin}
 use Rattle.cardsite.proofs.Limited.{within}
 
 -- a value put in, where it is given
@@ -70,5 +68,8 @@ pub row-within : RowWithin
 unfolding rowScenario scenarioOf
 row-within c passed s was age h = exposure-within (rowScenario c s) (row-fit c passed (s .fields) was .fit) age h
 
-pub start-by-bytes : StartByBytes
-start-by-bytes row = ap startOf (row-read row)
+-- a row whose figures stand in the fields already changes nothing
+pub row-same : (c : Card) (fields diets : List ℕ) → rowFields c fields ≡ fields
+    → rowScenario c (withDiets diets (scenarioOf fields)) ≡ withDiets diets (scenarioOf fields)
+unfolding rowScenario scenarioOf
+row-same c fields diets e = ap (λ (f : List ℕ). withDiets diets (scenarioOf f)) e

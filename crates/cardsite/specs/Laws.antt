@@ -14,21 +14,15 @@ use Rattle.site.specs.Laws.{Fits}
 use Rattle.exposure.specs.declared.Exposure.{Exposure}
 use Rattle.exposure.specs.Exposure.{exposureAt}
 use Rattle.exposure.specs.Limits.{ExposureLimits}
-use Rattle.lines.specs.Summary.{summaryOf}
 use Rattle.card.specs.declared.Value.{Value}
 use Rattle.card.specs.declared.Value.the-variants.{Missing, Figure}
 use Rattle.card.specs.declared.Card.{Card}
 use Rattle.card.specs.declared.RowRead.{RowRead}
-use Rattle.card.specs.Row.{readRow, readText}
 use Rattle.card.specs.Values.{monthsOf, soilIn, dustIn, skipped}
 use Rattle.cardsite.specs.declared.Start.the-variants.{Runs}
 use Rattle.cardsite.specs.Start.{startOf}
 use Rattle.cardsite.specs.Over.{overLimit}
 use Rattle.cardsite.specs.Fields.{rowFields, rowScenario}
-
--- what becomes of a row is said by its bytes
-abbrev pub StartByBytes : Type 0
-StartByBytes = (row : List ℕ) → startOf (readText (summaryOf row)) ≡ startOf (readRow row)
 
 -- a card that runs is not skipped, none of its figures is over its limit, and it has an AGE from 1 to 84 months
 pub record Running (c : Card) : Type 0 where

@@ -12,8 +12,8 @@ ghost use Prim.Native.Nat.{_+_, _≤_, _<_};
 ghost use lib.ListN.{set};
 ghost use Rattle.site.specs.Fields.{ages, fieldCount, at, limits};
 ghost use Rattle.site.specs.Put.{putFrom};
-ghost use Rattle.cardsite.specs.Over.{over, overLimit};
 ghost use Rattle.card.specs.Row.{readText};
+ghost use Rattle.cardsite.specs.Over.{over, overLimit};
 ghost use Rattle.cardsite.specs.Start.{startOf};
 ghost use Rattle.cardsite.specs.Fields.{given, mediaFields, rowFields, rowScenario};
 
