@@ -109,7 +109,6 @@ delivery =
       row-read = card.row-read;
       text-read = card.text-read;
       worked-rows = worked-card.worked-rows;
-      row-start = cardsite.start-by-bytes;
       row-runs = starts.runs-within;
       worked-starts = worked-site.bench;
       every-age-fits = put.every-age-fits;

@@ -113,7 +113,6 @@ pub record Delivery : Type 0 where
   pub row-read : card.RowReadLaw
   pub text-read : card.TextReadLaw
   pub worked-rows : workedRows.WorkedRows
-  pub row-start : cardsite.StartByBytes
   pub row-runs : cardsite.RunsWithin
   pub worked-starts : workedStarts.Bench
   -- a figure put over a site file's fields, at every age or singly, stands there, keeps the others, and keeps them within limits

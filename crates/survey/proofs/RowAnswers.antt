@@ -1,13 +1,9 @@
 -- What a row answers, by its files, by its start and by its child's course.
 -- Assumes nothing.
-use mathlib.Core.Path.{_≡_, refl, sym, ap, _∙_}
-use mathlib.Core.Bool.{Bool, true, false, not, _&&_, _||_}
+use mathlib.Core.Path.{_≡_, sym, ap, _∙_}
 use mathlib.Core.List.{List}
-use Prim.Native.Nat.{ℕ, _≤_}
-use native.Mathlib.Omega.{arith}
+use Prim.Native.Nat.{ℕ}
 use lib.ListN.{length}
-use lib.Dec.{leb}
-use borrow.Author.Tests.{leb-true}
 use Rattle.numbers.proofs.Every.{length-tab}
 use Rattle.numbers.proofs.Refusals.{answer-refused}
 use Rattle.block.specs.Block.{fieldsFrom}
@@ -27,7 +23,7 @@ use Rattle.child.specs.Internal.{Decoded}
 use Rattle.lines.specs.declared.RowText.{RowText}
 use Rattle.card.specs.declared.Card.{Card}
 use Rattle.card.specs.Row.{readText}
-use Rattle.card.specs.Values.{missing, monthsOf, isAge, skipped}
+use Rattle.card.specs.Values.{monthsOf}
 use Rattle.cardsite.specs.declared.Start.{Start}
 use Rattle.cardsite.specs.declared.Start.the-variants as start
 use Rattle.cardsite.specs.Start.{startOf}
@@ -47,19 +43,7 @@ course-refused c h = sym (answer-refused (Blood (c .blood)) Refused (c .refusal)
 pub course-runs : (c : Course) → c .refusal ≡ 0 → Blood (c .blood) ≡ courseAnswer c
 course-runs c e = rw e
 
--- a card that runs has an AGE of at most 84
-age-by : (a b both : Bool) → not (a && b) || both ≡ false → b ≡ true
-age-by true true both e = refl
-age-by true false both e = let z : true ≡ false = e in cc
-age-by false b both e = let z : true ≡ false = e in cc
-
-pub age-most : (c : Card) → Running c → monthsOf (c .age) ≤ 84
-unfolding skipped
-age-most c run =
-    let n = monthsOf (c .age) in
-    leb-true n 84 (age-by (leb 1 n) (leb n 84) (missing (c .soil) && missing (c .dust)) (run .runs))
-
--- and a scenario within the limits
+-- a card that runs has a scenario within the limits
 pub row-decoded : (c : Card) → Running c → (scenario : Scenario) (table : List ℕ) → Ready scenario table → Decoded (rowScenario c scenario) table
 row-decoded c run scenario table ready =
     record {

@@ -1,6 +1,6 @@
 -- What is kept of a row answers as the row, refused files refuse every row, and a row that changes nothing answers as the run.
 -- Assumes nothing.
-use mathlib.Core.Path.{_≡_, refl, ap, sym, _∙_}
+use mathlib.Core.Path.{_≡_, ap, sym, _∙_}
 use mathlib.Core.List.{List}
 use Prim.Native.Nat.{ℕ, _+_, _<_}
 use native.Mathlib.Omega.{arith}
@@ -12,16 +12,17 @@ use Rattle.child.specs.Course.{courseAt}
 use Rattle.card.specs.declared.Card.{Card}
 use Rattle.card.specs.Row.{readRow}
 use Rattle.card.specs.Values.{monthsOf}
-use Rattle.cardsite.proofs.RowLaws.{start-by-bytes}
+use Rattle.card.proofs.Rows.{row-read}
+use Rattle.cardsite.specs.Start.{startOf}
 use Rattle.cardsite.proofs.Starts.{runs-within}
 use Rattle.survey.specs.declared.RowAnswer.the-variants.{Blood, Refused}
 use Rattle.survey.specs.Survey.{courseAnswer, cardAnswer, filesThen, rowAnswer, textAnswer}
 use Rattle.survey.specs.Laws.{KeptLaw, FilesFirst, Unchanging, RunLaw}
-use Rattle.survey.proofs.RowAnswers.{course-refused, course-runs, age-most}
+use Rattle.survey.proofs.RowAnswers.{course-refused, course-runs}
 
 pub kept-law : KeptLaw
 unfolding rowAnswer textAnswer
-kept-law s f row = ap (filesThen s f) (start-by-bytes row)
+kept-law s f row = ap (λ r. filesThen s f (startOf r)) (row-read row)
 
 pub files-first : FilesFirst
 unfolding rowAnswer
@@ -34,7 +35,7 @@ module _ (s : ℕ) (f : Files) (row : List ℕ) (c : Card) (m : ℕ) (u : Unchan
   course-of-files = rw (u .accepted, u .runs, u .same, age)
 
   in-range : m < lastMonth
-  in-range = omega (arith, age-most c (runs-within (readRow row) c (u .runs)))
+  in-range = omega (arith, runs-within (readRow row) c (u .runs) .last)
 
 pub run-law : RunLaw
 run-law s f row c m u age =

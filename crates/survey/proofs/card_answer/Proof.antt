@@ -3,7 +3,7 @@
 use borrow.Author.Needs.{needs}
 use native.Mathlib.Omega.{arith}
 use Rattle.steps.specs.Steps.{stepsADay}
-use Rattle.survey.proofs.RowAnswers.{age-most, row-decoded, card-answered}
+use Rattle.survey.proofs.RowAnswers.{row-decoded, card-answered}
 use Rattle.survey.proofs.card_answer.Statement.{statement}
 use Rattle.survey.proofs.card_answer.Tie as tie
 
@@ -14,7 +14,7 @@ age-of-requires : tie.Need-age-of-requires
 age-of-requires c κs = search needs
 
 cast-to-month : tie.Need-cast-to-month
-cast-to-month c = omega (arith, c .age-of .ensures, age-most _ (c .before .before .before .pre .2))
+cast-to-month c = omega (arith, c .age-of .ensures, c .before .before .before .pre .2 .last)
 
 to-month-requires : tie.Need-to-month-requires
 to-month-requires c κs =
