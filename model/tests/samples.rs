@@ -80,14 +80,20 @@ fn the_survey_shows_what_it_says() {
     assert_eq!((answers.len(), of("C9")), (23, "31.3"));
 }
 
-/// The card that the program's own check runs on is the default sample.
+/// The cards that the programs' own checks run on are samples.
 #[test]
-fn the_program_s_card_is_the_default_sample() {
-    let (program, default) = (repository::at("crates/leadline"), repository::at("samples/default"));
-    for file in ["site.lkb", "book.lkb"] {
-        assert!(stored(&program.join("data"), file) == stored(&default, file), "{file}");
+fn the_programs_cards_are_samples() {
+    let programs = [
+        ("leadline", "default", &["site.lkb", "book.lkb"][..], "printout.txt"),
+        ("leadcard", "survey", &["site.lkb", "book.lkb", "card.txt"][..], "cardout.txt"),
+    ];
+    for (name, sample, files, printout) in programs {
+        let (program, sample) = (repository::at("crates").join(name), repository::at("samples").join(sample));
+        for file in files {
+            assert!(stored(&program.join("data"), file) == stored(&sample, file), "{name}: {file}");
+        }
+        assert_eq!(text(stored(&program, "stdout")), text(stored(&sample, printout)), "{name}");
     }
-    assert_eq!(text(stored(&program, "stdout")), text(stored(&default, "printout.txt")));
 }
 
 /// Name, lines, lines marked `W` and last line of each sample.

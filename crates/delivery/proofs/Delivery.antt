@@ -36,12 +36,11 @@ use Rattle.figures.proofs.Written as written
 use Rattle.figures.proofs.Only as only
 use Rattle.card.specs.declared.RowRead.{RowRead}
 use Rattle.card.proofs.Rows as card
-use Rattle.card.proofs.Worked as worked-card
 use Rattle.site.proofs.PutFits as put
 use Rattle.cardsite.proofs.Starts as starts
 use Rattle.cardsite.proofs.RowLaws as cardsite
 use Rattle.cardsite.proofs.RowValues as values
-use Rattle.cardsite.proofs.CardBench as worked-site
+use Rattle.cardsite.proofs.CardBench as worked-rows
 use Rattle.child.proofs.CourseInRun as course
 use Rattle.survey.proofs.RowLaws as survey
 use Rattle.cardline.proofs.PieceLines as pieces
@@ -108,9 +107,8 @@ delivery =
       figure-alone = only.figure-law;
       row-read = card.row-read;
       text-read = card.text-read;
-      worked-rows = worked-card.worked-rows;
       row-runs = starts.runs-within;
-      worked-starts = worked-site.bench;
+      worked-rows = worked-rows.bench;
       every-age-fits = put.every-age-fits;
       every-age-puts = put.every-age-puts;
       singly-fits = put.singly-fits;

@@ -28,9 +28,8 @@ use Rattle.lines.specs.Bench as workedTexts
 use Rattle.figures.specs.Laws as figures
 use Rattle.card.specs.declared.RowRead.{RowRead}
 use Rattle.card.specs.Laws as card
-use Rattle.card.specs.Bench as workedRows
 use Rattle.cardsite.specs.Laws as cardsite
-use Rattle.cardsite.specs.Bench as workedStarts
+use Rattle.cardsite.specs.Bench as workedRows
 use Rattle.child.specs.Laws as course
 use Rattle.survey.specs.Laws as survey
 use Rattle.cardline.specs.Laws as cardline
@@ -112,9 +111,8 @@ pub record Delivery : Type 0 where
   -- a row's card, 12, skip and 7
   pub row-read : card.RowReadLaw
   pub text-read : card.TextReadLaw
-  pub worked-rows : workedRows.WorkedRows
   pub row-runs : cardsite.RunsWithin
-  pub worked-starts : workedStarts.Bench
+  pub worked-rows : workedRows.Bench
   -- a figure put over a site file's fields, at every age or singly, stands there, keeps the others, and keeps them within limits
   pub every-age-fits : site.EveryAgeFits
   pub every-age-puts : site.EveryAgePuts
