@@ -1,16 +1,11 @@
 -- What a row answers, by its files, by its start and by its child's course.
 -- Assumes nothing.
-use mathlib.Core.Path.{_≡_, sym, ap, _∙_}
+use mathlib.Core.Path.{_≡_, sym, _∙_}
 use mathlib.Core.List.{List}
 use Prim.Native.Nat.{ℕ}
-use lib.ListN.{length}
-use Rattle.numbers.proofs.Every.{length-tab}
 use Rattle.numbers.proofs.Refusals.{answer-refused}
-use Rattle.block.specs.Block.{fieldsFrom}
 use Rattle.site.specs.declared.Scenario.{Scenario}
-use Rattle.site.specs.Fields.{fieldCount}
-use Rattle.site.specs.Scenario.{scenarioOf}
-use Rattle.site.proofs.FieldsWithin.{accepted-scenario, accepted-fit, mother-accepted}
+use Rattle.site.proofs.FieldsWithin.{accepted-fits, mother-accepted}
 use Rattle.book.proofs.RowsWithin.{rows-within}
 use Rattle.files.specs.declared.FilesRead.{FilesRead}
 use Rattle.files.specs.Files.{Files, filesRefusal, scenarioIn, tableIn}
@@ -73,14 +68,9 @@ module _ (s : ℕ) (scenario : Scenario) (table : List ℕ) {x : Start} (text : 
 
 -- accepted files
 pub files-ready : (f : Files) → filesRefusal f ≡ 0 → Ready (scenarioIn f) (tableIn f)
-unfolding scenarioOf fieldsFrom
 files-ready f passed =
     record {
-      fields =
-          record {
-            long = ap (λ (s : Scenario). length (s .fields)) (accepted-scenario (f .site) (site-passed f passed)) ∙ length-tab fieldCount _;
-            fit = accepted-fit (f .site) (site-passed f passed);
-          };
+      fields = accepted-fits (f .site) (site-passed f passed);
       mother = mother-accepted (f .site) (site-passed f passed);
       row = rows-within (f .book) (book-passed f passed);
     }
