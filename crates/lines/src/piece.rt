@@ -10,7 +10,7 @@ ghost use mathlib.Core.Path.{_≡_};
 ghost use Rattle.lines.specs.Walk.{walkOf};
 ghost use Rattle.lines.specs.Internal.{readerOf};
 
-// A reader without its row's bytes.
+// A reader without its row's arrays.
 fn place_of(reader: Reader) -> Place
     ensures { λ r. ⌜ readerOf r (reader .row .lengths) (reader .row .fields) ≡ reader ⌝ }
 {
@@ -32,7 +32,7 @@ fn place_of(reader: Reader) -> Place
     }
 }
 
-// A reader of its parts.
+// A reader, put together.
 fn reader_of(here: Place, lengths: [u8; FIELDS], fields: [u8; KEPT_BYTES]) -> Reader
     ensures { λ r. ⌜ r ≡ readerOf here lengths fields ⌝ }
 {
