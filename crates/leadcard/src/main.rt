@@ -1,10 +1,14 @@
 // Prints the blood lead of each child of a survey, a line for each row of card.txt, over site.lkb and book.lkb, all in the current folder.
-// A file that is missing or cannot be opened counts as empty. If reading fails, what was read until then counts as the file. The text is read
-// in pieces, and a row is never held whole: neither has a greatest length.
+// A file that is missing or cannot be opened counts as empty. If reading the site file or the book fails, what was read until then counts as the
+// file, and has a wrong length; if reading the text fails, its last row may be cut, so the program stops there and says why. The text is read in
+// pieces, and a row is never held whole: neither has a greatest length.
 use cardline::LINE_BYTES;
 use libc::STDOUT_FILENO;
 use lines::Reader;
+ghost use mathlib.Core.Path.{_≡_};
+ghost use mathlib.Core.Bool.{false};
 ghost use Rattle.io.specs.Counts.{Counts};
+ghost use Rattle.lines.specs.Stream.{after};
 
 // What is read of each file: a byte more than its format has, so that a longer file has a wrong length and is not read whole.
 const SITE_READ: usize = site::SITE_BYTES + 1;
@@ -17,7 +21,7 @@ const PIECE_BYTES: usize = 512;
 struct Turn {
     reader: Reader,
     more: bool, // it had a byte
-    written: bool, // its lines are written
+    failed: bool, // it could not be read, or a line of it not written
 }
 
 // Reads what the buffer holds of a file, and answers how many bytes came.
@@ -42,8 +46,10 @@ fn write_line(line: &[u8]) -> bool {
     false
 }
 
-// Prints the line of each row that ends in a piece, up to the first that cannot be written.
-fn print_piece(site: &[u8], book: &[u8], reader: Reader, piece: &[u8]) -> Turn {
+// Prints the line of each row that ends in a piece, up to the first that cannot be written; then the reader is where the piece leads.
+fn print_piece(site: &[u8], book: &[u8], reader: Reader, piece: &[u8]) -> Turn
+    ensures { λ r. ⌜ (r .failed ≡ false → r .reader ≡ after reader (now (piece .entry))) ⌝ }
+{
     let mut here = reader;
     let mut at: usize = 0;
     while at < piece.len() {
@@ -55,20 +61,28 @@ fn print_piece(site: &[u8], book: &[u8], reader: Reader, piece: &[u8]) -> Turn {
             return Turn {
                 reader: here,
                 more: true,
-                written: false,
+                failed: true,
             };
         }
     }
     Turn {
         reader: here,
         more: at > 0,
-        written: true,
+        failed: false,
     }
 }
 
 fn print_next_piece(site: &[u8], book: &[u8], reader: Reader, file: i32) -> Turn {
     let mut buffer = [0u8; PIECE_BYTES];
     let got = libc::read(file, &mut buffer);
+    if got < 0 {
+        os::fail(b"leadcard");
+        return Turn {
+            reader,
+            more: false,
+            failed: true,
+        };
+    }
     let bytes = io::count(got, &buffer);
     print_piece(site, book, reader, &buffer[..bytes])
 }
@@ -87,7 +101,7 @@ fn print_rows(site: &[u8], book: &[u8], file: i32) {
     let mut pieces = u64::MAX;
     while pieces > 0 {
         let turn = print_next_piece(site, book, reader, file);
-        if !turn.written {
+        if turn.failed {
             return;
         }
         reader = turn.reader;

@@ -1,23 +1,26 @@
 -- `leadcard::print_piece` is safe and ends: a walk stays within its piece, and goes on. The measure is the number of bytes left.
 -- Assumes nothing.
 use Prim.Native.Nat.{_-_, _≤_}
-use mathlib.Core.Path.{sym}
+use mathlib.Core.Path.{_≡_, refl, sym, _∙_}
+use mathlib.Core.Bool.{true≢false}
 use native.Mathlib.Omega.{arith}
 use borrow.Author.Needs.{needs}
-use lib.ListN.{length, length-append}
+use lib.ListN.{length, length-append, drop}
 use lib.Seq.{length-take-le}
-use Rattle.leadcard.proofs.Onward.{used-within, used-onward}
+use Rattle.lines.specs.Stream.{after}
+use Rattle.lines.proofs.Reading.{after-all}
+use Rattle.leadcard.proofs.Onward.{used-within, used-onward, still-leads}
 use Rattle.leadcard.proofs.print_piece.Statement.{statement}
 use Rattle.leadcard.proofs.print_piece.Tie as tie
 
 abbrev Inv-loop : tie.InvT-loop
-Inv-loop site book piece here₀ at₀ here at = at ≤ length piece
+Inv-loop site book piece here₀ at₀ here at = (at ≤ length piece) × (after here (drop at piece) ≡ after here₀ piece)
 
 abbrev μ-loop : tie.MeasureT-loop
 μ-loop site book piece here₀ at₀ here at = length piece - at
 
 loop-holds : tie.Need-loop-holds Inv-loop μ-loop
-loop-holds c = omega arith
+loop-holds c = (omega arith, refl)
 
 sub-next-line : tie.Need-sub-next-line Inv-loop μ-loop
 sub-next-line c = search needs
@@ -46,7 +49,7 @@ write-line-requires : tie.Need-write-line-requires Inv-loop μ-loop
 write-line-requires c κs = search needs
 
 returns : tie.Need-returns Inv-loop μ-loop
-returns c = search needs
+returns c = λ on. absurd (true≢false on)
 
 loop-less : tie.Need-loop-less Inv-loop μ-loop
 loop-less c =
@@ -54,10 +57,16 @@ loop-less c =
     omega (arith, used-onward _ _ _ read (omega arith))
 
 loop-again : tie.Need-loop-again Inv-loop μ-loop
-loop-again c = omega (arith, used-within _ _ _ (c .before .before .before .before .before .next-line .ensures .0))
+loop-again c =
+    let turn = c .before .before .before .before .before in
+    let read = turn .next-line .ensures .0 in
+    let here = turn .before .before .before .before in
+    let piece = here .before .before .before .before .args .piece .now in
+    let at = here .loop .at in
+    (omega (arith, used-within _ _ _ read), still-leads _ _ piece at (length piece - at) read (omega arith) ∙ here .loop .inv .1)
 
 returns-2 : tie.Need-returns-2 Inv-loop μ-loop
-returns-2 c = search needs
+returns-2 c = λ on. sym (after-all _ _ _ (c .loop-test .left)) ∙ c .before .loop .inv .1
 
 pub print-piece-spec : {M : Type 1} → statement M
 print-piece-spec =
