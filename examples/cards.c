@@ -77,7 +77,7 @@ static void print_id(void) {
 static void print_row(void) {
     static const uint8_t no_bytes[1];
     uint32_t blood;
-    bool skipped;
+    bool skipped = false;
     uint32_t refusal = jurengate_card_row(site, site_len, has_foods, foods, foods_len, book, book_len,
                                           row == NULL ? no_bytes : row, row_len, &blood, &skipped);
     print_id();

@@ -16,34 +16,34 @@ use Rattle.steps.specs.Steps.{stepsADay}
 use Rattle.lines.specs.declared.RowText.{RowText}
 use Rattle.survey.specs.declared.RowAnswer.{RowAnswer}
 use Rattle.survey.specs.declared.RowAnswer.the-variants.{Blood, Skipped, Refused}
-use Rattle.survey.specs.Survey.{textAnswer}
+use Rattle.survey.specs.Survey.{keptAnswer}
 use Rattle.cardline.specs.Cardline.{rowLine, joined}
-use Rattle.cardline.specs.Pieces.{textLines}
-use Rattle.cardline.specs.Internal.{TextPut}
+use Rattle.cardline.specs.Pieces.{keptLines}
+use Rattle.cardline.specs.Internal.{lineBytes, KeptPut}
 
-pub put-skipped : {l₀ l₁ : List ℕ} {e₀ e₁ : ℕ} → Put l₀ e₀ (rowLine Skipped) 4 l₁ e₁ → Put l₀ e₀ (rowLine Skipped) 19 l₁ e₁
+pub put-skipped : {l₀ l₁ : List ℕ} {e₀ e₁ : ℕ} → Put l₀ e₀ (rowLine Skipped) 4 l₁ e₁ → Put l₀ e₀ (rowLine Skipped) lineBytes l₁ e₁
 put-skipped line = put-as line refl (omega (arith, line .small))
 
 pub put-blood : {l₀ l₁ l₂ : List ℕ} {e₀ e₁ e₂ : ℕ} (blood : ℕ)
     → Put l₀ e₀ (figure blood) 12 l₁ e₁
     → Put l₁ e₁ (lineFeed ∷ []) 1 l₂ e₂
-    → Put l₀ e₀ (rowLine (Blood blood)) 19 l₂ e₂
+    → Put l₀ e₀ (rowLine (Blood blood)) lineBytes l₂ e₂
 put-blood blood value end = let line = put-then value end in put-as line refl (omega (arith, line .small))
 
 pub put-refused : {l₀ l₁ l₂ l₃ : List ℕ} {e₀ e₁ e₂ e₃ : ℕ} (number : ℕ)
     → Put l₀ e₀ refusedText 8 l₁ e₁
     → Put l₁ e₁ (decimal number) 10 l₂ e₂
     → Put l₂ e₂ (lineFeed ∷ []) 1 l₃ e₃
-    → Put l₀ e₀ (rowLine (Refused number)) 19 l₃ e₃
+    → Put l₀ e₀ (rowLine (Refused number)) lineBytes l₃ e₃
 put-refused number refused digits end = put-then refused (put-then digits end)
 
 -- the lines of one row are its line
-one-line : (f : Files) (text : RowText) → textLines f (text ∷ []) ≡ rowLine (textAnswer stepsADay f text)
-unfolding textLines joined
-one-line f text = append-nil (rowLine (textAnswer stepsADay f text))
+one-line : (f : Files) (text : RowText) → keptLines f (text ∷ []) ≡ rowLine (keptAnswer stepsADay f text)
+unfolding keptLines joined
+one-line f text = append-nil (rowLine (keptAnswer stepsADay f text))
 
-pub text-put :
-    {f : Files} {text : RowText} {answer : RowAnswer} {before after : List ℕ} {bytes : ℕ} → answer ≡ textAnswer stepsADay f text
-    → Put before 0 (rowLine answer) 19 after bytes → 19 ≤ length before → TextPut f text before after bytes
-text-put {f} {text} same put fits =
+pub kept-put :
+    {f : Files} {text : RowText} {answer : RowAnswer} {before after : List ℕ} {bytes : ℕ} → answer ≡ keptAnswer stepsADay f text
+    → Put before 0 (rowLine answer) lineBytes after bytes → lineBytes ≤ length before → KeptPut f text before after bytes
+kept-put {f} {text} same put fits =
     let line = put-line (one-line f text ∙ ap rowLine (sym same)) put fits in record { count = line .0; is = line .1 }

@@ -6,8 +6,13 @@ use mathlib.Core.List.{List, [], _∷_, _++_}
 use lib.ListN.{length, drop}
 use Rattle.files.specs.Files.{Files}
 use Rattle.lines.specs.declared.RowText.{RowText}
-use Rattle.cardline.specs.Pieces.{textLines}
+use Rattle.cardline.specs.Pieces.{keptLines}
 
-pub record TextPut (f : Files) (text : RowText) (before after : List ℕ) (bytes : ℕ) : Type 0 where
-  pub count : bytes ≡ length (textLines f (text ∷ []))
-  pub is : after ≡ textLines f (text ∷ []) ++ drop (length (textLines f (text ∷ []))) before
+-- the bytes that every line fits in
+abbrev pub lineBytes : ℕ
+lineBytes = 19
+
+-- the line of a row, at the start of lent bytes
+pub record KeptPut (f : Files) (text : RowText) (before after : List ℕ) (bytes : ℕ) : Type 0 where
+  pub count : bytes ≡ length (keptLines f (text ∷ []))
+  pub is : after ≡ keptLines f (text ∷ []) ++ drop (length (keptLines f (text ∷ []))) before

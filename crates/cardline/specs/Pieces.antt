@@ -11,17 +11,17 @@ use Rattle.lines.specs.declared.Reader.{Reader}
 use Rattle.lines.specs.declared.Walk.{Walk}
 use Rattle.lines.specs.Stream.{after, ended, last}
 use Rattle.lines.specs.Walk.{walkOf, rowIn}
-use Rattle.survey.specs.Survey.{textAnswer}
+use Rattle.survey.specs.Survey.{keptAnswer}
 use Rattle.cardline.specs.declared.LineRead.{LineRead}
 use Rattle.cardline.specs.Cardline.{rowLine, joined}
 
 -- the lines of rows, of what is kept of them
-unfoldable pub textLines : Files → List RowText → List ℕ
-textLines f rows = joined (map (λ (text : RowText). rowLine (textAnswer stepsADay f text)) rows)
+unfoldable pub keptLines : Files → List RowText → List ℕ
+keptLines f rows = joined (map (λ (kept : RowText). rowLine (keptAnswer stepsADay f kept)) rows)
 
 -- what is printed of a walk: the line of the row that has ended, if one has
 abbrev pub walkLine : Files → Walk → List ℕ
-walkLine f w = textLines f (rowIn w)
+walkLine f w = keptLines f (rowIn w)
 
 -- the next line of a piece: where the walk up to it has led, and its length
 unfoldable pub nextLine : Files → Reader → List ℕ → List ℕ
@@ -32,11 +32,11 @@ lineRead f r piece = record { reader = walkOf r piece .reader; used = walkOf r p
 
 -- the line of the last row, if only the end of the text ends it
 unfoldable pub lastLine : Files → Reader → List ℕ
-lastLine f r = textLines f (last r)
+lastLine f r = keptLines f (last r)
 
 -- what is printed of a piece, and of all pieces to the end of the text
 abbrev pub pieceLines : Files → Reader → List ℕ → List ℕ
-pieceLines f r piece = textLines f (ended r piece)
+pieceLines f r piece = keptLines f (ended r piece)
 
 unfoldable pub printed : Files → Reader → List (List ℕ) → List ℕ
 printed f r [] = lastLine f r

@@ -8,7 +8,7 @@ ghost use mathlib.Core.List.{_++_};
 ghost use lib.ListN.{length, drop};
 ghost use Rattle.files.specs.Files.{filesOf};
 ghost use Rattle.cardline.specs.Pieces.{lineRead, nextLine, lastLine};
-ghost use Rattle.cardline.specs.Internal.{TextPut};
+ghost use Rattle.cardline.specs.Internal.{KeptPut};
 
 mod rows; // rows.rt: the line of an answer
 
@@ -23,10 +23,10 @@ pub struct LineRead {
 }
 
 // The line of a row, of what is kept of it.
-fn put_text(site: &[u8], book: &[u8], text: RowText, target: &mut [u8; LINE_BYTES]) -> usize
-    ensures { λ r. ⌜ TextPut (filesOf (now (site .entry)) (now (book .entry))) text (now (target .entry)) (now (target .exit)) r ⌝ }
+fn put_kept(site: &[u8], book: &[u8], kept: RowText, target: &mut [u8; LINE_BYTES]) -> usize
+    ensures { λ r. ⌜ KeptPut (filesOf (now (site .entry)) (now (book .entry))) kept (now (target .entry)) (now (target .exit)) r ⌝ }
 {
-    let answer = survey::text_answer(site, false, &site[..0], book, text);
+    let answer = survey::kept_answer(site, false, &site[..0], book, kept);
     rows::put_row(target, answer)
 }
 
@@ -45,8 +45,8 @@ pub fn next_line(
     let next = walk.reader;
     let used = walk.used;
     if walk.ended {
-        let text = walk.row;
-        let bytes = put_text(site, book, text, target);
+        let kept = walk.row;
+        let bytes = put_kept(site, book, kept, target);
         return LineRead {
             reader: next,
             used,
@@ -66,8 +66,8 @@ pub fn last_line(site: &[u8], book: &[u8], reader: Reader, target: &mut [u8; LIN
     ensures { λ _. ⌜ now (target .exit) ≡ lastLine (filesOf (now (site .entry)) (now (book .entry))) reader ++ drop (length (lastLine (filesOf (now (site .entry)) (now (book .entry))) reader)) (now (target .entry)) ⌝ }
 {
     if reader.begun {
-        let text = reader.row;
-        return put_text(site, book, text, target);
+        let kept = reader.row;
+        return put_kept(site, book, kept, target);
     }
     0
 }

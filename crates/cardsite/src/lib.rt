@@ -12,7 +12,7 @@ ghost use Prim.Native.Nat.{_+_, _≤_, _<_};
 ghost use lib.ListN.{set};
 ghost use Rattle.site.specs.Fields.{ages, fieldCount, at, limits};
 ghost use Rattle.site.specs.Put.{putFrom};
-ghost use Rattle.card.specs.Row.{readText};
+ghost use Rattle.card.specs.Row.{readKept};
 ghost use Rattle.cardsite.specs.Over.{over, overLimit};
 ghost use Rattle.cardsite.specs.Start.{startOf};
 ghost use Rattle.cardsite.specs.Fields.{given, mediaFields, rowFields, rowScenario};
@@ -155,7 +155,7 @@ pub fn row_scenario(card: Card, scenario: Scenario) -> Scenario
 
 // What becomes of a row: 12, then a skip, then its own 7.
 pub fn start_row(row: RowText) -> Start
-    ensures { λ r. ⌜ r ≡ startOf (readText row) ⌝ }
+    ensures { λ r. ⌜ r ≡ startOf (readKept row) ⌝ }
 {
     match card::read_card(row) {
         RowRead::Accepted(card) => {

@@ -120,6 +120,7 @@ delivery =
       course-in-run = course.course-law;
       files-first = survey.files-first;
       row-kept = survey.kept-law;
+      row-in-its-run = survey.own-run-law;
       row-in-run = survey.run-law;
       card-piece = pieces.piece-law;
       card-pieces = pieces.pieces-law;

@@ -123,10 +123,12 @@ pub record Delivery : Type 0 where
   pub row-exposure-within : cardsite.RowWithin
   pub row-exposures : cardsite.RowExposures
   pub row-mother : cardsite.RowMother
-  -- a child's course up to a month is as in a run; refused files refuse every row; a row that changes nothing has the run's figure at its AGE
+  -- a child's course up to a month is as in a run; refused files refuse every row; a row that runs answers as the run of its scenario at its AGE, and as
+  -- the files' own if it changes nothing
   pub course-in-run : course.CourseLaw
   pub files-first : survey.FilesFirst
   pub row-kept : survey.KeptLaw
+  pub row-in-its-run : survey.OwnRunLaw
   pub row-in-run : survey.RunLaw
   -- the printout of a card is made line by line of a text in any pieces; the bytes that are enough to read; lines and texts that the request shows
   pub card-piece : cardline.PieceLaw

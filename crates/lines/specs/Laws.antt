@@ -20,9 +20,9 @@ abbrev pub Without : ℕ → List ℕ → Type 0
 Without b xs = Each (λ (x : ℕ). x ≡ b → ⊥) xs
 
 -- the pieces with the byte b after each
-abbrev pub joined : ℕ → List (List ℕ) → List ℕ
-joined b [] = []
-joined b (p ∷ ps) = p ++ (b ∷ joined b ps)
+abbrev pub endedBy : ℕ → List (List ℕ) → List ℕ
+endedBy b [] = []
+endedBy b (p ∷ ps) = p ++ (b ∷ endedBy b ps)
 
 -- a line ends at a line feed or at the end of the text, and nothing after the last line feed is no line:
 -- so no line has a line feed, and the lines are all of the text
@@ -31,7 +31,7 @@ pub record LinesLaw : Type 0 where
   pub end : (line : List ℕ) → Without lineFeed line → 0 < length line → linesOf line ≡ line ∷ []
   pub nothing : linesOf [] ≡ []
   pub plain : (text : List ℕ) → Each (Without lineFeed) (linesOf text)
-  pub all : (text : List ℕ) → joined lineFeed (linesOf (text ++ (lineFeed ∷ []))) ≡ text ++ (lineFeed ∷ [])
+  pub all : (text : List ℕ) → endedBy lineFeed (linesOf (text ++ (lineFeed ∷ []))) ≡ text ++ (lineFeed ∷ [])
 
 -- a field is a longest stretch without a space: a space or the row's end ends it, and spaces beside spaces are nothing
 pub record FieldsLaw : Type 0 where

@@ -17,7 +17,7 @@ use Rattle.child.specs.Course.{courseAt}
 use Rattle.child.specs.Internal.{Decoded}
 use Rattle.lines.specs.declared.RowText.{RowText}
 use Rattle.card.specs.declared.Card.{Card}
-use Rattle.card.specs.Row.{readText}
+use Rattle.card.specs.Row.{readKept}
 use Rattle.card.specs.Values.{monthsOf}
 use Rattle.cardsite.specs.declared.Start.{Start}
 use Rattle.cardsite.specs.declared.Start.the-variants as start
@@ -28,7 +28,7 @@ use Rattle.cardsite.proofs.RowLaws.{row-within}
 use Rattle.cardsite.proofs.RowValues.{row-mother}
 use Rattle.survey.specs.declared.RowAnswer.{RowAnswer}
 use Rattle.survey.specs.declared.RowAnswer.the-variants.{Blood, Skipped, Refused}
-use Rattle.survey.specs.Survey.{courseAnswer, cardAnswer, startAnswer, textAnswer}
+use Rattle.survey.specs.Survey.{courseAnswer, cardAnswer, startAnswer, keptAnswer}
 use Rattle.survey.specs.Internal.{Ready}
 
 -- a course
@@ -56,14 +56,14 @@ unfolding cardAnswer
 card-answered s c scenario table er ea ec e = e ∙ rw (ec, er, ea)
 
 -- a row of accepted files, by its start
-module _ (s : ℕ) (scenario : Scenario) (table : List ℕ) {x : Start} (text : RowText) (ex : x ≡ startOf (readText text)) where
-  pub start-runs : (c : Card) → x ≡ start.Runs c → {r : RowAnswer} → r ≡ cardAnswer s scenario table c → r ≡ startAnswer s scenario table (startOf (readText text))
+module _ (s : ℕ) (scenario : Scenario) (table : List ℕ) {x : Start} (text : RowText) (ex : x ≡ startOf (readKept text)) where
+  pub start-runs : (c : Card) → x ≡ start.Runs c → {r : RowAnswer} → r ≡ cardAnswer s scenario table c → r ≡ startAnswer s scenario table (startOf (readKept text))
   start-runs c e er = er ∙ rw (sym ex ∙ e)
 
-  pub start-skips : x ≡ start.Skipped → Skipped ≡ startAnswer s scenario table (startOf (readText text))
+  pub start-skips : x ≡ start.Skipped → Skipped ≡ startAnswer s scenario table (startOf (readKept text))
   start-skips e = rw (sym ex ∙ e)
 
-  pub start-refuses : (n : ℕ) → x ≡ start.Refused n → Refused n ≡ startAnswer s scenario table (startOf (readText text))
+  pub start-refuses : (n : ℕ) → x ≡ start.Refused n → Refused n ≡ startAnswer s scenario table (startOf (readKept text))
   start-refuses n e = rw (sym ex ∙ e)
 
 -- accepted files
@@ -77,16 +77,16 @@ files-ready f passed =
 
 -- as the code has them from its reading
 module _ {f : Files} {table : List ℕ} {x : FilesRead} (read : FilesAreRead f table x) where
-  pub files-refused : (s : ℕ) (text : RowText) → (x .refusal ≡ 0 → ⊥) → Refused (x .refusal) ≡ textAnswer s f text
-  unfolding textAnswer
+  pub files-refused : (s : ℕ) (text : RowText) → (x .refusal ≡ 0 → ⊥) → Refused (x .refusal) ≡ keptAnswer s f text
+  unfolding keptAnswer
   files-refused s text h = rw (← read .refusal) (sym (answer-refused _ Refused (x .refusal) h))
 
   module _ (passed : x .refusal ≡ 0) where
     pub files-read-ready : Ready (x .scenario) table
     files-read-ready = rw (read .scenario passed, read .table-is passed) (files-ready f (files-passed read passed))
 
-    pub files-answered : (s : ℕ) (text : RowText) → startAnswer s (x .scenario) table (startOf (readText text)) ≡ textAnswer s f text
-    unfolding textAnswer
+    pub files-answered : (s : ℕ) (text : RowText) → startAnswer s (x .scenario) table (startOf (readKept text)) ≡ keptAnswer s f text
+    unfolding keptAnswer
     files-answered s text =
-        read-as f (read .scenario passed) (read .table-is passed) (λ scenario l. startAnswer s scenario l (startOf (readText text)))
+        read-as f (read .scenario passed) (read .table-is passed) (λ scenario l. startAnswer s scenario l (startOf (readKept text)))
         ∙ rw (files-passed read passed)

@@ -9,7 +9,7 @@ use Rattle.child.specs.declared.Course.{Course}
 use Rattle.child.specs.Course.{courseAt}
 use Rattle.lines.specs.declared.RowText.{RowText}
 use Rattle.card.specs.declared.Card.{Card}
-use Rattle.card.specs.Row.{readRow, readText}
+use Rattle.card.specs.Row.{readRow, readKept}
 use Rattle.card.specs.Values.{monthsOf}
 use Rattle.cardsite.specs.declared.Start.{Start}
 use Rattle.cardsite.specs.declared.Start.the-variants as start
@@ -42,5 +42,5 @@ unfoldable pub rowAnswer : ℕ → Files → List ℕ → RowAnswer
 rowAnswer s f row = filesThen s f (startOf (readRow row))
 
 -- the same from what is kept of a row
-unfoldable pub textAnswer : ℕ → Files → RowText → RowAnswer
-textAnswer s f text = filesThen s f (startOf (readText text))
+unfoldable pub keptAnswer : ℕ → Files → RowText → RowAnswer
+keptAnswer s f kept = filesThen s f (startOf (readKept kept))

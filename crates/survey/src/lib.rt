@@ -8,12 +8,12 @@ use site::Scenario;
 ghost use mathlib.Core.Path.{_≡_};
 ghost use lib.ListN.{length};
 ghost use Rattle.book.specs.Book.{tableNumbers};
-ghost use Rattle.card.specs.Row.{readText};
+ghost use Rattle.card.specs.Row.{readKept};
 ghost use Rattle.cardsite.specs.Laws.{Running};
 ghost use Rattle.cardsite.specs.Start.{startOf};
 ghost use Rattle.files.specs.Files.{filesIf};
 ghost use Rattle.steps.specs.Steps.{stepsADay};
-ghost use Rattle.survey.specs.Survey.{courseAnswer, cardAnswer, startAnswer, textAnswer, rowAnswer};
+ghost use Rattle.survey.specs.Survey.{courseAnswer, cardAnswer, startAnswer, keptAnswer, rowAnswer};
 ghost use Rattle.survey.specs.Internal.{Ready};
 
 pub mod values; // values.rt: an answer's number and values
@@ -49,11 +49,11 @@ fn card_answer(card: Card, scenario: Scenario, table: &[u32]) -> RowAnswer
 }
 
 // What a row answers that accepted files have.
-fn start_answer(text: RowText, scenario: Scenario, table: &[u32]) -> RowAnswer
+fn start_answer(kept: RowText, scenario: Scenario, table: &[u32]) -> RowAnswer
     requires { ⌜ (length (now table) ≡ tableNumbers) × (Ready scenario (now table)) ⌝ }
-    ensures { λ r. ⌜ r ≡ startAnswer stepsADay scenario (now (table .entry)) (startOf (readText text)) ⌝ }
+    ensures { λ r. ⌜ r ≡ startAnswer stepsADay scenario (now (table .entry)) (startOf (readKept kept)) ⌝ }
 {
-    match cardsite::start_row(text) {
+    match cardsite::start_row(kept) {
         Start::Runs(card) => card_answer(card, scenario, table),
         Start::Skipped => RowAnswer::Skipped,
         Start::Refused(number) => RowAnswer::Refused(number),
@@ -61,14 +61,14 @@ fn start_answer(text: RowText, scenario: Scenario, table: &[u32]) -> RowAnswer
 }
 
 // What a row answers, of what is kept of it.
-pub fn text_answer(
+pub fn kept_answer(
     site: &[u8],
     has_foods: bool,
     foods: &[u8],
     book: &[u8],
-    text: RowText,
+    kept: RowText,
 ) -> RowAnswer
-    ensures { λ r. ⌜ r ≡ textAnswer stepsADay (filesIf «has_foods» (now (site .entry)) (now (foods .entry)) (now (book .entry))) text ⌝ }
+    ensures { λ r. ⌜ r ≡ keptAnswer stepsADay (filesIf «has_foods» (now (site .entry)) (now (foods .entry)) (now (book .entry))) kept ⌝ }
 {
     let mut table = [0u32; TABLE_NUMBERS];
     let read = files::read_files(site, has_foods, foods, book, &mut table);
@@ -77,13 +77,13 @@ pub fn text_answer(
         return RowAnswer::Refused(refusal);
     }
     let scenario = read.scenario;
-    start_answer(text, scenario, &table)
+    start_answer(kept, scenario, &table)
 }
 
 // What a row answers, of its bytes: a line feed is one like others.
 pub fn row_answer(site: &[u8], has_foods: bool, foods: &[u8], book: &[u8], row: &[u8]) -> RowAnswer
     ensures { λ r. ⌜ r ≡ rowAnswer stepsADay (filesIf «has_foods» (now (site .entry)) (now (foods .entry)) (now (book .entry))) (now (row .entry)) ⌝ }
 {
-    let text = lines::row_text(row);
-    text_answer(site, has_foods, foods, book, text)
+    let kept = lines::row_text(row);
+    kept_answer(site, has_foods, foods, book, kept)
 }

@@ -6,13 +6,13 @@ use Rattle.cardline.proofs.PieceLines.{last-begun, last-none}
 use Rattle.cardline.proofs.last_line.Statement.{statement}
 use Rattle.cardline.proofs.last_line.Tie as tie
 
-put-text-requires : tie.Need-put-text-requires
-put-text-requires c κs = search needs
+put-kept-requires : tie.Need-put-kept-requires
+put-kept-requires c κs = search needs
 
 returns : tie.Need-returns
 returns c =
     let a = c .before .before .before .before .before .before .args in
-    last-begun (filesOf (a .site .now) (a .book .now)) (a .reader) (c .before .before .before .if1 .taken) (c .put-text .ensures)
+    last-begun (filesOf (a .site .now) (a .book .now)) (a .reader) (c .before .before .before .if1 .taken) (c .put-kept .ensures)
 
 returns-2 : tie.Need-returns-2
 returns-2 c =
@@ -20,4 +20,4 @@ returns-2 c =
     last-none (filesOf (a .site .now) (a .book .now)) (a .reader) (c .if1 .left)
 
 pub last-line-spec : {M : Type 1} → statement M
-last-line-spec = tie.close (tie.spec put-text-requires returns returns-2)
+last-line-spec = tie.close (tie.spec put-kept-requires returns returns-2)

@@ -9,14 +9,14 @@ use Rattle.cardline.proofs.next_line.Tie as tie
 to-row-end-requires : tie.Need-to-row-end-requires
 to-row-end-requires c κs = search needs
 
-put-text-requires : tie.Need-put-text-requires
-put-text-requires c κs = search needs
+put-kept-requires : tie.Need-put-kept-requires
+put-kept-requires c κs = search needs
 
 returns : tie.Need-returns
 returns c =
     let walked = c .before .before .before .before .before in
     let a = walked .before .before .before .before .args in
-    row-ended (filesOf (a .site .now) (a .book .now)) (a .reader) (a .piece .now) (walked .to-row-end .ensures) (c .before .before .before .if1 .taken) (c .put-text .ensures)
+    row-ended (filesOf (a .site .now) (a .book .now)) (a .reader) (a .piece .now) (walked .to-row-end .ensures) (c .before .before .before .if1 .taken) (c .put-kept .ensures)
 
 returns-2 : tie.Need-returns-2
 returns-2 c =
@@ -24,4 +24,4 @@ returns-2 c =
     row-goes-on (filesOf (a .site .now) (a .book .now)) (a .reader) (a .piece .now) (c .before .before .to-row-end .ensures) (c .if1 .left)
 
 pub next-line-spec : {M : Type 1} → statement M
-next-line-spec = tie.close (tie.spec to-row-end-requires put-text-requires returns returns-2)
+next-line-spec = tie.close (tie.spec to-row-end-requires put-kept-requires returns returns-2)

@@ -3,7 +3,7 @@
 use borrow.Author.Needs.{needs}
 use mathlib.Core.Path.{sym, _∙_}
 use Rattle.steps.specs.Steps.{stepsADay}
-use Rattle.card.specs.Row.{readText}
+use Rattle.card.specs.Row.{readKept}
 use Rattle.cardsite.proofs.Starts.{runs-within}
 use Rattle.survey.proofs.RowAnswers.{start-runs, start-skips, start-refuses}
 use Rattle.survey.proofs.start_answer.Statement.{statement}
@@ -18,7 +18,7 @@ enum-known-card c = search needs
 card-answer-requires : tie.Need-card-answer-requires
 card-answer-requires c κs =
     let start = c .before .before .before .before .before in
-    (start .pre .0, start .pre .1, runs-within (readText (start .args .text)) _ (sym (c .before .before .before .start-row .ensures) ∙ c .before .card .given .1))
+    (start .pre .0, start .pre .1, runs-within (readKept (start .args .kept)) _ (sym (c .before .before .before .start-row .ensures) ∙ c .before .card .given .1))
 
 enum-told : tie.Need-enum-told
 enum-told c = search needs

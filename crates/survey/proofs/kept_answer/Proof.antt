@@ -1,12 +1,12 @@
--- `survey::text_answer` meets its contract.
+-- `survey::kept_answer` meets its contract.
 -- Assumes nothing.
 use borrow.Author.Needs.{needs}
 use mathlib.Core.Path.{sym, _∙_}
 use Rattle.steps.specs.Steps.{stepsADay}
 use Rattle.engine.proofs.FilesDecoded.{files-long}
 use Rattle.survey.proofs.RowAnswers.{files-refused, files-read-ready, files-answered}
-use Rattle.survey.proofs.text_answer.Statement.{statement}
-use Rattle.survey.proofs.text_answer.Tie as tie
+use Rattle.survey.proofs.kept_answer.Statement.{statement}
+use Rattle.survey.proofs.kept_answer.Tie as tie
 
 read-files-requires : tie.Need-read-files-requires
 read-files-requires c κs = search needs
@@ -27,8 +27,8 @@ returns-2 : tie.Need-returns-2
 returns-2 c =
     c .start-answer .ensures ∙ files-answered (c .before .before .before .before .read-files .ensures) (c .before .before .before .if1 .left) stepsADay _
 
-pub text-answer-spec : {M : Type 1} → statement M
-text-answer-spec =
+pub kept-answer-spec : {M : Type 1} → statement M
+kept-answer-spec =
     tie.close
     (tie.spec
     read-files-requires
