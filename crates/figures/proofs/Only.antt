@@ -1,4 +1,4 @@
--- What is read as a figure is one: digits, then at most a point and one to three digits.
+-- What is read as a figure is one: digits, then at most a point and one to three digits, and they give its number.
 -- Assumes nothing.
 use Prim.Native.Nat.{ℕ, _+_, _-_, _*_, _^_, _≤_, _<_}
 use mathlib.Core.Path.{_≡_, refl, ap, _∙_, sym}
@@ -73,19 +73,28 @@ pub whole-law : WholeLaw
 unfolding plainField
 whole-law field n e = whole-by field n (isStar field) e
 
--- a reading that is a figure
-abbrev Read : Reading → Type 0
-Read r = (n : ℕ) × (r ≡ Figure n)
+-- a figure in a smaller unit is one in its own, and a sum that is a figure is one of two figures
+record TimesRead (k : ℕ) (r : Reading) (n : ℕ) : Type 0 where
+  pub own : ℕ
+  pub read : r ≡ Figure own
+  pub same : n ≡ own * k
 
-times-read : (k : ℕ) (r : Reading) (n : ℕ) → times k r ≡ Figure n → Read r
+times-read : (k : ℕ) (r : Reading) (n : ℕ) → times k r ≡ Figure n → TimesRead k r n
 times-read k Missing n e = absurd (missing-not e)
-times-read k (Figure m) n e = (m, refl)
+times-read k (Figure m) n e = record { own = m; read = refl; same = sym (figure-same e) }
 times-read k Wrong n e = absurd (wrong-not e)
 
-plus-read : (v w : Reading) (n : ℕ) → plus v w ≡ Figure n → Read v × Read w
+record PlusRead (v w : Reading) (n : ℕ) : Type 0 where
+  pub left : ℕ
+  pub right : ℕ
+  pub read-left : v ≡ Figure left
+  pub read-right : w ≡ Figure right
+  pub same : n ≡ left + right
+
+plus-read : (v w : Reading) (n : ℕ) → plus v w ≡ Figure n → PlusRead v w n
 plus-read Missing w n e = absurd (wrong-not e)
 plus-read (Figure a) Missing n e = absurd (wrong-not e)
-plus-read (Figure a) (Figure b) n e = ((a, refl), (b, refl))
+plus-read (Figure a) (Figure b) n e = record { left = a; right = b; read-left = refl; read-right = refl; same = sym (figure-same e) }
 plus-read (Figure a) Wrong n e = absurd (wrong-not e)
 plus-read Wrong w n e = absurd (wrong-not e)
 
@@ -102,56 +111,72 @@ up-rest b (x ∷ xs) = by (eqb x b) refl (up-rest b xs)
     by true t later = inr (xs, ap (_∷ xs) (eqb-true x b t))
     by false t later = later
 
--- what is read from the point on is nothing, or the point and one to three digits
-abbrev Part : List ℕ → List ℕ → Type 0
-Part rest ds = (rest ≡ pointed ds) × (length ds ≤ 3) × Digits ds
+-- what is read from the point on is nothing, or the point and one to three digits, and they give n thousandths
+record Part (rest : List ℕ) (n : ℕ) (ds : List ℕ) : Type 0 where
+  pub parts : rest ≡ pointed ds
+  pub few : length ds ≤ 3
+  pub digits : Digits ds
+  pub value : n ≡ valueFrom 0 ds * 10 ^ (3 - length ds)
 
 pointed-some : (ds : List ℕ) → 0 < length ds → point ∷ ds ≡ pointed ds
 pointed-some [] h = absurd (omega arith)
 pointed-some (d ∷ ds) h = refl
 
-part-by : (ds : List ℕ) (k n : ℕ) (t : Bool) → leb (length ds) 3 ≡ t → cond t (times k (wholeOf ds)) Wrong ≡ Figure n → Part (point ∷ ds) ds
-part-by ds k n true t e =
-    let m = times-read k (wholeOf ds) n e in
-    let are = whole-only ds (m .0) (m .1) in
-    (pointed-some ds (are .some), leb-true (length ds) 3 t, are .digits)
-part-by ds k n false t e = absurd (wrong-not e)
+part-by : (ds : List ℕ) (n : ℕ) (t : Bool) → leb (length ds) 3 ≡ t → cond t (times (10 ^ (3 - length ds)) (wholeOf ds)) Wrong ≡ Figure n → Part (point ∷ ds) n ds
+part-by ds n true t e =
+    let k : ℕ = 10 ^ (3 - length ds) in
+    let whole = times-read k (wholeOf ds) n e in
+    let are = whole-only ds (whole .own) (whole .read) in
+    record {
+      parts = pointed-some ds (are .some);
+      few = leb-true (length ds) 3 t;
+      digits = are .digits;
+      value = whole .same ∙ ap (_* k) (sym (are .value));
+    }
+part-by ds n false t e = absurd (wrong-not e)
 
-part-only : (rest : List ℕ) (n : ℕ) → fractionOf rest ≡ Figure n → FromB point rest → (ds : List ℕ) × Part rest ds
-unfolding fractionOf
-part-only rest n e (inl none) = ([], (none, omega arith, tt))
+part-only : (rest : List ℕ) (n : ℕ) → fractionOf rest ≡ Figure n → FromB point rest → (ds : List ℕ) × Part rest n ds
+unfolding fractionOf valueFrom
+part-only rest n e (inl none) =
+    ([], record { parts = none; few = omega arith; digits = tt; value = sym (figure-same (sym (ap fractionOf none) ∙ e)) })
 part-only rest n e (inr (ds, from)) =
-    let part = part-by ds (10 ^ (3 - length ds)) n (leb (length ds) 3) refl (sym (ap fractionOf from) ∙ e) in
-    (ds, (from ∙ part .0, part .1, part .2))
+    let part = part-by ds n (leb (length ds) 3) refl (sym (ap fractionOf from) ∙ e) in
+    (ds, record { parts = from ∙ part .parts; few = part .few; digits = part .digits; value = part .value })
 
 each-then : (xs ys : List ℕ) → Digits xs → Digits ys → Digits (xs ++ ys)
 each-then [] ys p q = q
 each-then (x ∷ xs) ys p q = (p .0, each-then xs ys (p .1) q)
 
-thousandths-only : (field : List ℕ) (n : ℕ) → thousandthsOf field ≡ Figure n → IsFigure field
+-- the two parts of a figure, added up
+total-of : {m left right own v w : ℕ} → m ≡ left + right → left ≡ own * 1000 → v ≡ own → right ≡ w → m ≡ 1000 * v + w
+total-of sum whole value part = omega arith
+
+thousandths-only : (unit : ℕ) (field : List ℕ) (n m : ℕ) → thousandthsOf field ≡ Figure m → n ≡ m * unit → IsFigure unit field n
 unfolding thousandthsOf
-thousandths-only field n e =
+thousandths-only unit field n m e scaled =
     let before : List ℕ = upTo point field in
     let rest : List ℕ = drop (length before) field in
-    let both = plus-read (times 1000 (wholeOf before)) (fractionOf rest) n e in
-    let whole = times-read 1000 (wholeOf before) (both .0 .0) (both .0 .1) in
-    let are = whole-only before (whole .0) (whole .1) in
-    let part = part-only rest (both .1 .0) (both .1 .1) (up-rest point field) in
+    let sum = plus-read (times 1000 (wholeOf before)) (fractionOf rest) m e in
+    let whole = times-read 1000 (wholeOf before) (sum .left) (sum .read-left) in
+    let are = whole-only before (whole .own) (whole .read) in
+    let part = part-only rest (sum .right) (sum .read-right) (up-rest point field) in
+    let after : List ℕ = part .0 in
     let split : before ++ rest ≡ field = ap (_++ rest) (up-take point field) ∙ take-append-drop (length before) field in
     record {
       before = before;
-      after = part .0;
-      parts = sym split ∙ ap (before ++_) (part .1 .0);
+      after = after;
+      parts = sym split ∙ ap (before ++_) (part .1 .parts);
       some = are .some;
-      few = part .1 .1;
-      digits = each-then before (part .0) (are .digits) (part .1 .2);
+      few = part .1 .few;
+      digits = each-then before after (are .digits) (part .1 .digits);
+      value = scaled ∙ ap (_* unit) (total-of (sum .same) (whole .same) (are .value) (part .1 .value));
     }
 
-figure-by : (unit : ℕ) (field : List ℕ) (n : ℕ) (t : Bool) → cond t Missing (times unit (thousandthsOf field)) ≡ Figure n → IsFigure field
+figure-by : (unit : ℕ) (field : List ℕ) (n : ℕ) (t : Bool) → cond t Missing (times unit (thousandthsOf field)) ≡ Figure n → IsFigure unit field n
 figure-by unit field n true e = absurd (missing-not e)
 figure-by unit field n false e =
-    let m = times-read unit (thousandthsOf field) n e in
-    thousandths-only field (m .0) (m .1)
+    let r = times-read unit (thousandthsOf field) n e in
+    thousandths-only unit field n (r .own) (r .read) (r .same)
 
 pub figure-law : FigureLaw
 unfolding figureField

@@ -2,7 +2,7 @@
 -- Assumes nothing.
 use mathlib.Core.Path.{_≡_}
 use mathlib.Core.List.{List, [], _∷_, _++_}
-use Prim.Native.Nat.{ℕ, _+_, _*_, _^_, _≤_, _<_}
+use Prim.Native.Nat.{ℕ, _+_, _-_, _*_, _^_, _≤_, _<_}
 use lib.ListN.{length}
 use Rattle.text.specs.Characters.{star, point}
 use Rattle.text.specs.Decimal.{digit, decimal}
@@ -43,14 +43,15 @@ abbrev pub pointed : List ℕ → List ℕ
 pointed [] = []
 pointed (d ∷ ds) = point ∷ d ∷ ds
 
--- a field that is read as a figure is one digit or more, then at most a point and one to three digits, and nothing else
-pub record IsFigure (field : List ℕ) : Type 0 where
+-- a field that is read as a figure is one digit or more, then at most a point and one to three digits, and nothing else, and they give that number
+pub record IsFigure (unit : ℕ) (field : List ℕ) (n : ℕ) : Type 0 where
   pub before : List ℕ
   pub after : List ℕ
   pub parts : field ≡ before ++ pointed after
   pub some : 0 < length before
   pub few : length after ≤ decimals
   pub digits : Each (λ (b : ℕ). (digit 0 ≤ b) × (b ≤ digit 9)) (before ++ after)
+  pub value : n ≡ (1000 * valueFrom 0 before + valueFrom 0 after * 10 ^ (decimals - length after)) * unit
 
 abbrev pub FigureLaw : Type 0
-FigureLaw = (unit : ℕ) (field : List ℕ) (n : ℕ) → figureField unit field ≡ Figure n → IsFigure field
+FigureLaw = (unit : ℕ) (field : List ℕ) (n : ℕ) → figureField unit field ≡ Figure n → IsFigure unit field n
