@@ -93,11 +93,60 @@ fn missing_files_count_as_empty() {
 fn files_that_cannot_be_read_count_as_empty() {
     let text = format!("{HEADINGS}{ROW}\n");
     let (site, book) = (published::site(), curves::book());
-    for (file, due) in [("site.lkb", "refused 1\n"), ("book.lkb", "refused 1\n"), ("card.txt", "")] {
+    for file in ["site.lkb", "book.lkb"] {
         let folder = card(&format!("folder-{file}"), Some(&site), Some(&book), Some(text.as_bytes()));
         fs::remove_file(folder.path().join(file)).expect("the file goes");
         fs::create_dir(folder.path().join(file)).expect("a folder by the file's name");
-        LEADCARD.compare(folder.path(), due.as_bytes(), file);
+        LEADCARD.compare(folder.path(), b"refused 1\n", file);
+    }
+}
+
+/// A text that cannot be read prints no row, and standard error has the reason.
+#[test]
+fn a_text_that_cannot_be_read_is_told() {
+    let folder = card("folder-card.txt", Some(&published::site()), Some(&curves::book()), None);
+    fs::create_dir(folder.path().join("card.txt")).expect("a folder by the file's name");
+    let output = LEADCARD.redirected(folder.path(), "");
+    assert_eq!(String::from_utf8_lossy(&output.stdout), "");
+    assert_eq!(String::from_utf8_lossy(&output.stderr), "leadcard: Is a directory\n");
+}
+
+/// A `read` that fails where this many bytes of a text are read; other files are read as they are.
+const FAILING_READ: &str = r#"
+#define _GNU_SOURCE
+#include <errno.h>
+#include <sys/syscall.h>
+#include <unistd.h>
+ssize_t read(int file, void *bytes, size_t count) {
+    static size_t left = BYTES;
+    if (count != PIECE) return syscall(SYS_read, file, bytes, count);
+    if (left == 0) { errno = EIO; return -1; }
+    ssize_t got = syscall(SYS_read, file, bytes, count < left ? count : left);
+    if (got > 0) left -= (size_t)got;
+    return got;
+}
+"#;
+
+/// A read that fails within a row: the rows before it are printed, the row that is cut is not, and standard error has the reason.
+#[test]
+fn a_read_that_fails_cuts_no_row() {
+    let (whole, cut) = (format!("{HEADINGS}{ROW}\n"), "A2 1 1 1 200 150 * * * * 30 30");
+    let text = format!("{whole}{cut}\n{ROW}\n");
+    let (site, book) = (published::site(), curves::book());
+    let folder = card("failing-read", Some(&site), Some(&book), Some(text.as_bytes()));
+    let first = card_printout(&site, &book, whole.as_bytes());
+    let (source, library) = (folder.path().join("read.c"), folder.path().join("read.so"));
+    fs::write(&source, FAILING_READ).expect("the source is written");
+    for bytes in [whole.len() + cut.len(), whole.len() + cut.len() - 1, whole.len() + 1] {
+        let built = Command::new("cc")
+            .args(["-O2", "-shared", "-fPIC", "-DPIECE=512", &format!("-DBYTES={bytes}"), "-o"])
+            .args([&library, &source])
+            .status();
+        assert!(built.expect("cc runs").success());
+        let output = LEADCARD.command().current_dir(folder.path()).env("LD_PRELOAD", &library).output();
+        let output = output.expect("the program runs");
+        assert_eq!(String::from_utf8_lossy(&output.stdout), String::from_utf8_lossy(&first), "{bytes}");
+        assert_eq!(String::from_utf8_lossy(&output.stderr), "leadcard: Input/output error\n", "{bytes}");
     }
 }
 
