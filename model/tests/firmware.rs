@@ -150,7 +150,8 @@ fn the_cards_example_prints_what_the_model_says() {
     let texts =
         [text(""), text("\n"), text("\r\n\n"), b"".to_vec(), b"a\nb\nc".to_vec(), b"\n\n\n\n".to_vec()];
     for text in &texts {
-        let cards: [(&[u8], Option<&[u8]>, &[u8]); 5] = [
+        type Files<'a> = (&'a [u8], Option<&'a [u8]>, &'a [u8]);
+        let cards: [Files; 5] = [
             (&site, None, &book),
             (&site, Some(&foods), &book),
             (&site, Some(&[]), &book),

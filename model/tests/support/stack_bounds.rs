@@ -16,4 +16,4 @@ pub const STACK_BOUNDS: [(&str, usize); 10] = [
 ];
 
 /// The same for the calls of the second library.
-pub const CARDS_STACK_BOUNDS: [(&str, usize); 1] = [("card_row", 11_600)];
+pub const CARDS_STACK_BOUNDS: [(&str, usize); 1] = [("card_row", 11_700)];
