@@ -338,11 +338,8 @@ fn a_survey_without_rows_is_told() {
     fs::create_dir(&path).expect("a folder by the text's name");
     let told = copy.run(&["card"]);
     assert_eq!((told.status, told.output.as_slice()), (Some(0), &b""[..]));
-    assert!(
-        are_lines(&told.errors, &["card.txt in card cannot be read, and counts as empty"]),
-        "{}",
-        told.errors
-    );
+    let due = "leadcard: Is a directory\nsample: card.txt in card cannot be read: no row is printed\n";
+    assert_eq!(told.errors, due);
 }
 
 /// A refusal of the files is explained once, as it is without a survey; the site file's 7 is told from a row's own.
