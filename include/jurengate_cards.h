@@ -92,8 +92,7 @@ extern "C" {
 /* One row of a card over a site file, a rate book and, if has_foods, a foods block, whose diet takes the place of the site file's;
  * without has_foods its bytes are not looked at, and with it an empty one has a wrong length (1). An accepted row gives its blood
  * at AGE and skipped false; a skipped one answers JURENGATE_ACCEPTED with blood 0 and skipped true; a refused one (1, 3 to 12, 22)
- * leaves blood 0 and skipped false. What blood held before does not matter; skipped
- * has to hold false or true. */
+ * leaves blood 0 and skipped false. What blood held before does not matter; skipped has to hold false or true. */
 uint32_t jurengate_card_row(const uint8_t *site, size_t site_len, bool has_foods, const uint8_t *foods, size_t foods_len,
                             const uint8_t *book, size_t book_len, const uint8_t *row, size_t row_len,
                             uint32_t *blood, bool *skipped);

@@ -38,12 +38,12 @@ pub put-refused : {l₀ l₁ l₂ l₃ : List ℕ} {e₀ e₁ e₂ e₃ : ℕ} (
 put-refused number refused digits end = put-then refused (put-then digits end)
 
 -- the lines of one row are its line
-one-line : (f : Files) (text : RowText) → keptLines f (text ∷ []) ≡ rowLine (keptAnswer stepsADay f text)
+one-line : (f : Files) (kept : RowText) → keptLines f (kept ∷ []) ≡ rowLine (keptAnswer stepsADay f kept)
 unfolding keptLines joined
-one-line f text = append-nil (rowLine (keptAnswer stepsADay f text))
+one-line f kept = append-nil (rowLine (keptAnswer stepsADay f kept))
 
 pub kept-put :
-    {f : Files} {text : RowText} {answer : RowAnswer} {before after : List ℕ} {bytes : ℕ} → answer ≡ keptAnswer stepsADay f text
-    → Put before 0 (rowLine answer) lineBytes after bytes → lineBytes ≤ length before → KeptPut f text before after bytes
-kept-put {f} {text} same put fits =
-    let line = put-line (one-line f text ∙ ap rowLine (sym same)) put fits in record { count = line .0; is = line .1 }
+    {f : Files} {kept : RowText} {answer : RowAnswer} {before after : List ℕ} {bytes : ℕ} → answer ≡ keptAnswer stepsADay f kept
+    → Put before 0 (rowLine answer) lineBytes after bytes → lineBytes ≤ length before → KeptPut f kept before after bytes
+kept-put {f} {kept} same put fits =
+    let line = put-line (one-line f kept ∙ ap rowLine (sym same)) put fits in record { count = line .0; is = line .1 }

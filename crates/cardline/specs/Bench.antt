@@ -1,8 +1,7 @@
 -- Lines and texts of the request, of the definitions themselves.
 -- Assumes nothing.
 use mathlib.Core.Path.{_≡_}
-use mathlib.Core.List.{List, [], _∷_}
-use Prim.Native.Nat.{ℕ}
+use mathlib.Core.List.{[], _∷_}
 use Rattle.files.specs.Files.{Files}
 use Rattle.survey.specs.declared.RowAnswer.the-variants.{Blood, Skipped, Refused}
 use Rattle.cardline.specs.Cardline.{rowLine, cardPrintout}

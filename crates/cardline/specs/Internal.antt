@@ -13,6 +13,6 @@ abbrev pub lineBytes : ℕ
 lineBytes = 19
 
 -- the line of a row, at the start of lent bytes
-pub record KeptPut (f : Files) (text : RowText) (before after : List ℕ) (bytes : ℕ) : Type 0 where
-  pub count : bytes ≡ length (keptLines f (text ∷ []))
-  pub is : after ≡ keptLines f (text ∷ []) ++ drop (length (keptLines f (text ∷ []))) before
+pub record KeptPut (f : Files) (kept : RowText) (before after : List ℕ) (bytes : ℕ) : Type 0 where
+  pub count : bytes ≡ length (keptLines f (kept ∷ []))
+  pub is : after ≡ keptLines f (kept ∷ []) ++ drop (length (keptLines f (kept ∷ []))) before

@@ -1,7 +1,6 @@
 -- The printout as the program makes it: a line at a time, of a text that comes in pieces.
 -- Assumes nothing.
 use Prim.Native.Nat.{ℕ}
-use mathlib.Core.Bool.{cond}
 use mathlib.Core.List.{List, [], _∷_, _++_, map}
 use lib.ListN.{length}
 use Rattle.files.specs.Files.{Files}

@@ -1,6 +1,5 @@
 // The line of an answer.
 use survey::RowAnswer;
-ghost use mathlib.Core.Path.{_≡_};
 ghost use Prim.Native.Nat.{_≤_};
 ghost use lib.ListN.{length};
 ghost use Rattle.text.specs.Internal.{Put};

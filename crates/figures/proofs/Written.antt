@@ -2,23 +2,20 @@
 -- Assumes nothing.
 use Prim.Native.Nat.{ℕ, suc, _+_, _-_, _*_, _^_, _≤_, _<_}
 use mathlib.Core.Path.{_≡_, refl, ap, _∙_}
-use mathlib.Core.Bool.{Bool, true, false, cond}
+use mathlib.Core.Bool.{false}
 use mathlib.Core.List.{List, [], _∷_, _++_}
 use native.Mathlib.Omega.{arith}
 use native.Mathlib.Decide.{decLt}
-use borrow.Author.Tests.{le-leb, leb-true, ne-eqb}
+use borrow.Author.Tests.{le-leb, ne-eqb}
 use lib.ListN.{length, getD, drop}
 use lib.Seq.{drop-length}
-use lib.Dec.{leb}
 use Rattle.text.specs.Characters.{point}
 use Rattle.text.specs.Decimal.{digit, decimal}
 use Rattle.text.specs.Laws.{valueFrom}
 use Rattle.text.proofs.DecimalIsWritten.{decimal-law}
 use Rattle.numbers.specs.Lists.{Each}
-use Rattle.numbers.proofs.Every.{and-both}
-use Rattle.figures.specs.declared.Reading.{Reading}
-use Rattle.figures.specs.declared.Reading.the-variants.{Missing, Figure, Wrong}
-use Rattle.figures.specs.Figure.{isDigit, digitsFrom, wholeOf, fractionOf, upTo, thousandthsOf, isStar, plainField, figureField}
+use Rattle.figures.specs.declared.Reading.the-variants.{Figure}
+use Rattle.figures.specs.Figure.{digitsFrom, wholeOf, fractionOf, upTo, thousandthsOf, isStar, plainField, figureField}
 use Rattle.figures.specs.Laws.{WrittenLaw, StarLaw}
 
 -- bytes `0` to `9`

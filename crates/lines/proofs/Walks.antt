@@ -1,16 +1,16 @@
 -- The walk through a piece: a loop over its bytes, and what it passes.
 -- Assumes nothing.
-use Prim.Native.Nat.{ℕ, zero, suc, _+_, _≤_, _<_}
-use mathlib.Core.Path.{_≡_, refl, ap, _∙_, sym}
+use Prim.Native.Nat.{ℕ, suc, _+_, _≤_, _<_}
+use mathlib.Core.Path.{_≡_, refl, ap}
 use mathlib.Core.Bool.{Bool, true, false, cond, true≢false}
-use mathlib.Core.List.{List, [], _∷_, _++_}
+use mathlib.Core.List.{List, [], _∷_}
 use native.Mathlib.Omega.{arith}
 use native.Mathlib.Numerals.{add-one}
 use lib.ListN.{length, drop-of-length-le, getD, drop}
 use lib.Seq.{drop-cons}
 use Rattle.lines.specs.declared.Reader.{Reader}
 use Rattle.lines.specs.declared.Walk.{Walk}
-use Rattle.lines.specs.Stream.{ends, nextOf, after, ended}
+use Rattle.lines.specs.Stream.{ends, nextOf, ended}
 use Rattle.lines.specs.Walk.{pastRowEnd, byteThen, walkOf}
 use Rattle.lines.specs.Laws.{Walked}
 

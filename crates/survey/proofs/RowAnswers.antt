@@ -56,14 +56,14 @@ unfolding cardAnswer
 card-answered s c scenario table er ea ec e = e ∙ rw (ec, er, ea)
 
 -- a row of accepted files, by its start
-module _ (s : ℕ) (scenario : Scenario) (table : List ℕ) {x : Start} (text : RowText) (ex : x ≡ startOf (readKept text)) where
-  pub start-runs : (c : Card) → x ≡ start.Runs c → {r : RowAnswer} → r ≡ cardAnswer s scenario table c → r ≡ startAnswer s scenario table (startOf (readKept text))
+module _ (s : ℕ) (scenario : Scenario) (table : List ℕ) {x : Start} (kept : RowText) (ex : x ≡ startOf (readKept kept)) where
+  pub start-runs : (c : Card) → x ≡ start.Runs c → {r : RowAnswer} → r ≡ cardAnswer s scenario table c → r ≡ startAnswer s scenario table (startOf (readKept kept))
   start-runs c e er = er ∙ rw (sym ex ∙ e)
 
-  pub start-skips : x ≡ start.Skipped → Skipped ≡ startAnswer s scenario table (startOf (readKept text))
+  pub start-skips : x ≡ start.Skipped → Skipped ≡ startAnswer s scenario table (startOf (readKept kept))
   start-skips e = rw (sym ex ∙ e)
 
-  pub start-refuses : (n : ℕ) → x ≡ start.Refused n → Refused n ≡ startAnswer s scenario table (startOf (readKept text))
+  pub start-refuses : (n : ℕ) → x ≡ start.Refused n → Refused n ≡ startAnswer s scenario table (startOf (readKept kept))
   start-refuses n e = rw (sym ex ∙ e)
 
 -- accepted files
@@ -77,16 +77,16 @@ files-ready f passed =
 
 -- as the code has them from its reading
 module _ {f : Files} {table : List ℕ} {x : FilesRead} (read : FilesAreRead f table x) where
-  pub files-refused : (s : ℕ) (text : RowText) → (x .refusal ≡ 0 → ⊥) → Refused (x .refusal) ≡ keptAnswer s f text
+  pub files-refused : (s : ℕ) (kept : RowText) → (x .refusal ≡ 0 → ⊥) → Refused (x .refusal) ≡ keptAnswer s f kept
   unfolding keptAnswer
-  files-refused s text h = rw (← read .refusal) (sym (answer-refused _ Refused (x .refusal) h))
+  files-refused s kept h = rw (← read .refusal) (sym (answer-refused _ Refused (x .refusal) h))
 
   module _ (passed : x .refusal ≡ 0) where
     pub files-read-ready : Ready (x .scenario) table
     files-read-ready = rw (read .scenario passed, read .table-is passed) (files-ready f (files-passed read passed))
 
-    pub files-answered : (s : ℕ) (text : RowText) → startAnswer s (x .scenario) table (startOf (readKept text)) ≡ keptAnswer s f text
+    pub files-answered : (s : ℕ) (kept : RowText) → startAnswer s (x .scenario) table (startOf (readKept kept)) ≡ keptAnswer s f kept
     unfolding keptAnswer
-    files-answered s text =
-        read-as f (read .scenario passed) (read .table-is passed) (λ scenario l. startAnswer s scenario l (startOf (readKept text)))
+    files-answered s kept =
+        read-as f (read .scenario passed) (read .table-is passed) (λ scenario l. startAnswer s scenario l (startOf (readKept kept)))
         ∙ rw (files-passed read passed)
