@@ -4,27 +4,18 @@ use mathlib.Core.Path.{_≡_, refl, sym, _∙_}
 use mathlib.Core.Bool.{Bool, true, false, _||_, true≢false}
 use Prim.Native.Nat.{ℕ, _<_}
 use native.Mathlib.Omega.{arith}
-use borrow.Author.Tests.{ltb-false, leb-true}
-use lib.Dec.{leb}
-use Rattle.numbers.specs.Choice.{every}
-use Rattle.numbers.proofs.Every.{every-at}
+use borrow.Author.Tests.{ltb-false}
 use Rattle.site.specs.Fields.{fieldCount, at, limits, byAge, airGroup, soilGroup, dustGroup, alternateGroup, constantAt, absorbedDustAt, absorbedSoilAt}
+use Rattle.site.proofs.FieldTests.{limit-small}
 use Rattle.card.specs.declared.Value.{Value}
 use Rattle.card.specs.declared.Value.the-variants.{Missing, Figure}
 use Rattle.card.specs.declared.Card.{Card}
 use Rattle.card.specs.Values.{orOther, soilIn, dustIn}
 use Rattle.cardsite.specs.Over.{over, overAges, overSingle, overLimit}
 
--- no limit is above 10^9, so a figure within one is a 32-bit number
-limits-small : every (λ (place : ℕ). leb (at limits place) 1_000_000_000) 0 fieldCount ≡ true
-unfolding every limits
-limits-small = refl
-
+-- a figure within its limit is a 32-bit number
 pub within-small : (place n : ℕ) → place < fieldCount → over (at limits place) (Figure n) ≡ false → n < 4_294_967_296
-within-small place n h e =
-    let small = leb-true (at limits place) 1_000_000_000
-    (every-at (λ (p : ℕ). leb (at limits p) 1_000_000_000) 0 fieldCount limits-small place (omega arith) (omega arith)) in
-    omega (arith, ltb-false (at limits place) n e)
+within-small place n h e = omega (arith, limit-small place h, ltb-false (at limits place) n e)
 
 -- soil and dust have one limit, so a copied one is within it
 soil-as-dust : (v : Value) → overAges soilGroup v ≡ overAges dustGroup v

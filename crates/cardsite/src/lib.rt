@@ -4,6 +4,7 @@ use card::RowRead;
 use card::Value;
 use lines::RowText;
 use site::Scenario;
+use site::limits::LIMITS;
 use site::places;
 use site::places::FIELDS;
 ghost use mathlib.Core.Path.{_≡_};
@@ -43,7 +44,7 @@ fn over(place: usize, v: Value) -> bool
     match v {
         Value::Missing => false,
         Value::Figure(n) => {
-            let limit = site::limits::limit_of(place) as u64;
+            let limit = LIMITS[place] as u64;
             limit < n
         }
     }

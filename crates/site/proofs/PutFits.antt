@@ -100,7 +100,7 @@ group-limits : every (λ (place : ℕ). eqb (at limits place) (byAge limits (pla
 unfolding every limits
 group-limits = refl
 
-group-limit : (g : ℕ) → g < groups → (k : ℕ) → k < ages → at limits (ages * g + k) ≡ byAge limits g 0
+pub group-limit : (g : ℕ) → g < groups → (k : ℕ) → k < ages → at limits (ages * g + k) ≡ byAge limits g 0
 group-limit g h k l =
     let e = eqb-true (at limits (ages * g + k)) (byAge limits ((ages * g + k) / ages) 0)
     (every-at (λ (place : ℕ). eqb (at limits place) (byAge limits (place / ages) 0)) 0 singlesAt group-limits (ages * g + k) (omega arith) (omega arith)) in

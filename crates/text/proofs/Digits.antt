@@ -22,7 +22,7 @@ unfolding digitsWithin
 digits-last k n h = rw (le-ltb n 10 h)
 
 -- k digits at most
-digits-length : (k n : ℕ) → length (digitsWithin k n) ≤ k
+pub digits-length : (k n : ℕ) → length (digitsWithin k n) ≤ k
 unfolding digitsWithin
 digits-length zero n = omega arith
 digits-length (suc k) n =

@@ -1,8 +1,9 @@
--- `cardsite::over` meets its contract.
+-- `cardsite::over` meets its contract: the limit is the entry of the site's list.
 -- Assumes nothing.
-use mathlib.Core.Path.{ap}
-use lib.Dec.{ltb}
+use native.Mathlib.Omega.{arith}
 use borrow.Author.Needs.{needs}
+use Rattle.site.specs.Fields.{limits}
+use Rattle.site.proofs.FieldTests.{limit-small}
 use Rattle.cardsite.proofs.over.Statement.{statement}
 use Rattle.cardsite.proofs.over.Tie as tie
 
@@ -12,19 +13,22 @@ enum-told c = search needs
 enum-known-v : tie.Need-enum-known-v
 enum-known-v c = search needs
 
-limit-of-requires : tie.Need-limit-of-requires
-limit-of-requires c κs = search needs
+mul-limit : tie.Need-mul-limit
+mul-limit c = search needs
+
+array-read-limit : tie.Need-array-read-limit
+array-read-limit c = search needs
 
 cast-limit : tie.Need-cast-limit
-cast-limit c = search needs
+unfolding limits
+cast-limit c = record { fits = omega (arith, limit-small (c .before .before .before .args .place) (c .before .before .before .pre)) }
 
 returns : tie.Need-returns
 returns c = search needs
 
 returns-2 : tie.Need-returns-2
-returns-2 c =
-    let v = c .before .before .v in
-    simp (v .given .1) (ap (λ limit. ltb limit (v .given .0 .0)) (c .limit-of .ensures))
+unfolding limits
+returns-2 c = simp (c .before .v .given .1)
 
 pub over-spec : {M : Type 1} → statement M
-over-spec = tie.close (tie.spec enum-told enum-known-v limit-of-requires cast-limit returns returns-2)
+over-spec = tie.close (tie.spec enum-told enum-known-v mul-limit array-read-limit cast-limit returns returns-2)

@@ -1,0 +1,4 @@
+pub mod Grouped
+pub mod Blanks
+pub mod FigureFields
+pub mod PageLines

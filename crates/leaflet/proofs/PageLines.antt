@@ -1,0 +1,1 @@
+-- Lines put part by part. Assumes nothing.

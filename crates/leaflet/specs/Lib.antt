@@ -1,0 +1,2 @@
+pub mod Leaflet
+pub mod Internal
