@@ -1,75 +1,65 @@
+-- `leaflet::print_figures` is safe and ends: there are as many labels as figures, and the lent bytes begin with the line. The measure is the number of figures left.
+-- Assumes nothing.
+use Prim.Native.Nat.{_-_}
+use mathlib.Core.Path.{sym}
+use native.Mathlib.Omega.{arith}
+use borrow.Author.Needs.{needs}
+use lib.ListN.{length-append}
+use lib.Seq.{length-take-le}
+use Rattle.leaflet.specs.Leaflet.{figures}
 use Rattle.leaflet.proofs.print_figures.Statement.{statement}
 use Rattle.leaflet.proofs.print_figures.Tie as tie
-use Rattle.leaflet.proofs.print_figures.Reads as reads
-use Rattle.leaflet.proofs.print_figures.Lts as lts
-use Rattle.io.proofs.write_all.Reads as write-all-reads
-use Rattle.leaflet.proofs.page.put_figure.Reads as put-figure-reads
 
 abbrev Inv-loop : tie.InvT-loop
-Inv-loop labels figure₀ figure = ?
+Inv-loop labels figure₀ figure = Unit {0}
 
 abbrev μ-loop : tie.MeasureT-loop
-μ-loop labels figure₀ figure = ?
+μ-loop labels figure₀ figure = figures - figure
 
--- src/main.rt:21:5
 loop-holds : tie.Need-loop-holds Inv-loop μ-loop
-loop-holds c = ?
+loop-holds c = tt
 
--- src/main.rt:22:21
 mul-start : tie.Need-mul-start Inv-loop μ-loop
-mul-start c = ?
+mul-start c = omega arith
 
--- src/main.rt:23:19
 add-end : tie.Need-add-end Inv-loop μ-loop
-add-end c = ?
+add-end c = omega arith
 
--- src/main.rt:25:38
 sub-put-figure : tie.Need-sub-put-figure Inv-loop μ-loop
-sub-put-figure c = ?
+sub-put-figure c = omega arith
 
--- src/main.rt:25:38
 part-put-figure-start : tie.Need-part-put-figure-start Inv-loop μ-loop
-part-put-figure-start c = ?
+part-put-figure-start c = omega arith
 
--- src/main.rt:25:38
 part-put-figure-end : tie.Need-part-put-figure-end Inv-loop μ-loop
-part-put-figure-end c = ?
+part-put-figure-end c = omega arith
 
--- src/main.rt:25:13
 put-figure-requires : tie.Need-put-figure-requires Inv-loop μ-loop
-put-figure-requires c κs = ?
+put-figure-requires c κs = search needs
 
--- src/main.rt:26:42
 array-share-prefix-line : tie.Need-array-share-prefix-line Inv-loop μ-loop
-array-share-prefix-line c = ?
+array-share-prefix-line c = rw (c .put-figure .ensures .0, c .put-figure .ensures .1, length-append) (omega arith)
 
--- src/main.rt:26:42
 slice-aggregate-write-all : tie.Need-slice-aggregate-write-all Inv-loop μ-loop
-slice-aggregate-write-all c = ?
+slice-aggregate-write-all c = sym (length-take-le _ _ (array-share-prefix-line (c .before)))
 
--- src/main.rt:26:13
 write-all-requires : tie.Need-write-all-requires Inv-loop μ-loop
-write-all-requires c κs = ?
+write-all-requires c κs = search needs
 
--- src/main.rt:27:13
 returns : tie.Need-returns Inv-loop μ-loop
-returns c = ?
+returns c = search needs
 
--- src/main.rt:29:18
 add-figure : tie.Need-add-figure Inv-loop μ-loop
-add-figure c = ?
+add-figure c = search needs
 
--- src/main.rt:21:5
 loop-less : tie.Need-loop-less Inv-loop μ-loop
-loop-less c = ?
+loop-less c = search needs
 
--- src/main.rt:21:5
 loop-again : tie.Need-loop-again Inv-loop μ-loop
-loop-again c = ?
+loop-again c = tt
 
--- src/main.rt:17:1
 returns-2 : tie.Need-returns-2 Inv-loop μ-loop
-returns-2 c = ?
+returns-2 c = search needs
 
 pub print-figures-spec : {M : Type 1} → statement M
 print-figures-spec =

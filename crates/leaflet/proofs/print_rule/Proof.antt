@@ -1,28 +1,25 @@
+-- `leaflet::print_rule` is safe and ends: the lent bytes begin with the line, so it ends within them.
+-- Assumes nothing.
+use mathlib.Core.Path.{sym}
+use native.Mathlib.Omega.{arith}
 use borrow.Author.Needs.{needs}
+use lib.ListN.{length-append}
+use lib.Seq.{length-take-le}
 use Rattle.leaflet.proofs.print_rule.Statement.{statement}
 use Rattle.leaflet.proofs.print_rule.Tie as tie
-use Rattle.leaflet.proofs.print_rule.Reads as reads
-use Rattle.leaflet.proofs.print_rule.Lts as lts
-use Rattle.io.proofs.write_all.Reads as write-all-reads
-use Rattle.leaflet.proofs.page.put_rule.Reads as put-rule-reads
 
--- src/main.rt:39:9
 put-rule-requires : tie.Need-put-rule-requires
 put-rule-requires c κs = search needs
 
--- src/main.rt:40:34
 array-share-prefix-line : tie.Need-array-share-prefix-line
-array-share-prefix-line c = ?
+array-share-prefix-line c = rw (c .put-rule .ensures .0, c .put-rule .ensures .1, length-append) (omega arith)
 
--- src/main.rt:40:34
 slice-aggregate-write-all : tie.Need-slice-aggregate-write-all
-slice-aggregate-write-all c = ?
+slice-aggregate-write-all c = sym (length-take-le _ _ (array-share-prefix-line (c .before)))
 
--- src/main.rt:40:5
 write-all-requires : tie.Need-write-all-requires
 write-all-requires c κs = search needs
 
--- src/main.rt:35:1
 returns : tie.Need-returns
 returns c = search needs
 

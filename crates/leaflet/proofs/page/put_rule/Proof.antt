@@ -1,27 +1,26 @@
+-- `leaflet::page::put_rule` meets its contract: each part put after the one before.
+-- Assumes nothing.
+use mathlib.Core.Path.{refl}
 use borrow.Author.Needs.{needs}
+use Rattle.text.proofs.Puts.{put-line}
+use Rattle.leaflet.proofs.PageLines.{rule-put}
 use Rattle.leaflet.proofs.page.put_rule.Statement.{statement}
 use Rattle.leaflet.proofs.page.put_rule.Tie as tie
-use Rattle.leaflet.proofs.page.put_rule.Reads as reads
-use Rattle.leaflet.proofs.page.put_rule.Lts as lts
-use Rattle.leaflet.proofs.page.put_grouped.Reads as put-grouped-reads
-use Rattle.text.proofs.put_byte.Reads as put-byte-reads
-use Rattle.text.proofs.put_text.Reads as put-text-reads
 
--- src/page.rt:117:9
 put-text-requires : tie.Need-put-text-requires
 put-text-requires c κs = search needs
 
--- src/page.rt:118:9
 put-grouped-requires : tie.Need-put-grouped-requires
 put-grouped-requires c κs = search needs
 
--- src/page.rt:119:5
 put-byte-requires : tie.Need-put-byte-requires
 put-byte-requires c κs = search needs
 
--- src/page.rt:112:1
 returns : tie.Need-returns
-returns c = ?
+returns c =
+    let number = c .before .before in
+    let words = number .before .before in
+    put-line refl (rule-put (words .before .before .before .args .number) (words .before .before .before .pre .1) (words .put-text .ensures) (number .put-grouped .ensures) (c .put-byte .ensures)) (search needs)
 
 pub put-rule-spec : {M : Type 1} → statement M
 put-rule-spec =
