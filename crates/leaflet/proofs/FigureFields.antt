@@ -8,7 +8,7 @@ use borrow.Author.Tests.{lt-ltb, le-ltb}
 use Rattle.site.specs.Fields.{ages, groups, singlesAt, fieldCount, at, limits}
 use Rattle.site.proofs.FieldTests.{limit-small}
 use Rattle.site.proofs.PutFits.{group-limit}
-use Rattle.leaflet.specs.Leaflet.{figures, placeOf, mostOf}
+use Rattle.leaflet.specs.Figures.{figures, placeOf, mostOf}
 use Rattle.leaflet.specs.Internal.{MostOf}
 
 module _ (figure : ℕ) where

@@ -1,4 +1,4 @@
-pub mod Grouped
+pub mod Threes
 pub mod Blanks
 pub mod FigureFields
 pub mod PageLines

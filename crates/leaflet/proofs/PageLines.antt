@@ -12,7 +12,9 @@ use Rattle.text.specs.Decimal.{digitsWithin}
 use Rattle.text.specs.Internal.{Put}
 use Rattle.text.proofs.Puts.{put-then, put-as}
 use Rattle.site.specs.Fields.{singlesAt, saturationAt}
-use Rattle.leaflet.specs.Leaflet.{placeOf, leastOf, mostOf, groupedWithin, grouped, labelBytes, leastBytes, leastColumn, figureLine, ruleLine}
+use Rattle.leaflet.specs.Figures.{placeOf, leastOf, mostOf}
+use Rattle.leaflet.specs.Grouped.{groupedWithin, grouped}
+use Rattle.leaflet.specs.Leaflet.{labelBytes, leastBytes, figureLine, ruleLine}
 use Rattle.leaflet.specs.Internal.{groupedMost, wordsMost}
 
 -- either least fits its column

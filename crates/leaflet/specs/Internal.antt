@@ -3,7 +3,7 @@
 use mathlib.Core.Path.{_≡_}
 use Prim.Native.Nat.{ℕ, suc, _≤_, _<_}
 use Rattle.site.specs.Fields.{limits, at}
-use Rattle.leaflet.specs.Leaflet.{placeOf, mostOf}
+use Rattle.leaflet.specs.Figures.{placeOf, mostOf}
 
 -- bytes of a number below 10^12 with its commas, at most
 abbrev pub groupedMost : ℕ

@@ -1,42 +1,11 @@
--- The leaflet's lines (request 3): a figure of a site file with its least and most, and a rule with its number. Their words are the program's.
+-- The leaflet's lines (request 3): a figure of a site file with its least and its most, and a rule with its number. The words are the program's.
 -- Assumes nothing.
-use Prim.Native.Nat.{ℕ, zero, suc, _+_, _-_, _*_, _/_, _%_}
-use mathlib.Core.Bool.{cond}
+use Prim.Native.Nat.{ℕ, _-_}
 use mathlib.Core.List.{List, [], _∷_, _++_}
 use lib.ListN.{length, replicate}
-use lib.Dec.{eqb, ltb}
 use Rattle.text.specs.Characters.{lineFeed, space}
-use Rattle.text.specs.Decimal.{digit, decimal}
-use Rattle.site.specs.Fields.{ages, groups, singlesAt, singles, saturationAt, limits, at}
-
--- the figures of a site file: ten that have a field for each age, then those that stand singly
-abbrev pub figures : ℕ
-figures = groups + singles
-
--- the first field of a figure
-abbrev pub placeOf : ℕ → ℕ
-placeOf figure = cond (ltb figure groups) (ages * figure) (singlesAt + (figure - groups))
-
--- the least of a figure: 0, but for saturation's lower end
-abbrev pub leastOf : ℕ → ℕ
-leastOf figure = cond (eqb (placeOf figure) (singlesAt + saturationAt)) 1_000_000 0
-
--- the most of a figure, which the list of limits has at its fields
-abbrev pub mostOf : ℕ → ℕ
-mostOf figure = at limits (placeOf figure)
-
--- a comma and the last three digits of a number
-abbrev pub lastThree : ℕ → List ℕ
-lastThree n = 44 ∷ digit (n / 100 % 10) ∷ digit (n / 10 % 10) ∷ digit (n % 10) ∷ []
-
--- the decimal digits of n with a comma before each three, if k threes hold it
-unfoldable pub groupedWithin : ℕ → ℕ → List ℕ
-groupedWithin zero n = []
-groupedWithin (suc k) n = cond (ltb n 1_000) (decimal n) (groupedWithin k (n / 1_000) ++ lastThree n)
-
--- those of a number below 10^12
-abbrev pub grouped : ℕ → List ℕ
-grouped n = groupedWithin 4 n
+use Rattle.leaflet.specs.Figures.{leastOf, mostOf}
+use Rattle.leaflet.specs.Grouped.{grouped}
 
 -- bytes of a label, which is name, ages and unit of a figure, and of the column of its least
 abbrev pub labelBytes : ℕ

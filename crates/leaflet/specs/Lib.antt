@@ -1,2 +1,4 @@
+pub mod Figures
+pub mod Grouped
 pub mod Leaflet
 pub mod Internal

@@ -1,6 +1,6 @@
 // Prints the leaflet: least and most of each figure of a site file, from the list that the site check walks, and the two rules beside it.
+use figure::FIGURES;
 use libc::STDOUT_FILENO;
-use page::FIGURES;
 use page::LABEL_BYTES;
 use page::LINE_BYTES;
 use site::limits::SATURATION_LEAST;
@@ -8,9 +8,12 @@ use site::limits::SHARES_MOST;
 ghost use mathlib.Core.Path.{_≡_};
 ghost use Prim.Native.Nat.{_*_, _≤_, _<_};
 ghost use lib.ListN.{length};
-ghost use Rattle.leaflet.specs.Leaflet.{figures, labelBytes};
+ghost use Rattle.leaflet.specs.Figures.{figures};
+ghost use Rattle.leaflet.specs.Leaflet.{labelBytes};
 ghost use Rattle.leaflet.specs.Internal.{wordsMost};
 
+mod figure; // figure.rt: a figure of a site file, its least and its most
+mod grouped; // grouped.rt: numbers with commas
 mod page; // page.rt: a line of the leaflet
 
 // Prints a line for each figure, in the fields' order, and answers whether all could be written.

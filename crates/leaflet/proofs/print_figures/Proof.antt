@@ -6,7 +6,7 @@ use native.Mathlib.Omega.{arith}
 use borrow.Author.Needs.{needs}
 use lib.ListN.{length-append}
 use lib.Seq.{length-take-le}
-use Rattle.leaflet.specs.Leaflet.{figures}
+use Rattle.leaflet.specs.Figures.{figures}
 use Rattle.leaflet.proofs.print_figures.Statement.{statement}
 use Rattle.leaflet.proofs.print_figures.Tie as tie
 

@@ -1,9 +1,9 @@
--- `leaflet::page::put_last_three` meets its contract: each part put after the one before.
+-- `leaflet::grouped::put_last_three` meets its contract: each part put after the one before.
 -- Assumes nothing.
 use borrow.Author.Needs.{needs}
 use Rattle.text.proofs.Puts.{put-then}
-use Rattle.leaflet.proofs.page.put_last_three.Statement.{statement}
-use Rattle.leaflet.proofs.page.put_last_three.Tie as tie
+use Rattle.leaflet.proofs.grouped.put_last_three.Statement.{statement}
+use Rattle.leaflet.proofs.grouped.put_last_three.Tie as tie
 
 put-byte-requires : tie.Need-put-byte-requires
 put-byte-requires c κs = search needs

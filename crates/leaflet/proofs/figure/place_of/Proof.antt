@@ -1,9 +1,9 @@
--- `leaflet::page::place_of` meets its contract.
+-- `leaflet::figure::place_of` meets its contract.
 -- Assumes nothing.
 use borrow.Author.Needs.{needs}
 use Rattle.leaflet.proofs.FigureFields.{by-age, singly}
-use Rattle.leaflet.proofs.page.place_of.Statement.{statement}
-use Rattle.leaflet.proofs.page.place_of.Tie as tie
+use Rattle.leaflet.proofs.figure.place_of.Statement.{statement}
+use Rattle.leaflet.proofs.figure.place_of.Tie as tie
 
 mul-result : tie.Need-mul-result
 mul-result c = search needs

@@ -1,11 +1,11 @@
--- `leaflet::page::most_of` meets its contract: the limit is the entry of the site's list.
+-- `leaflet::figure::most_of` meets its contract: the limit is the entry of the site's list.
 -- Assumes nothing.
 use native.Mathlib.Omega.{arith}
 use borrow.Author.Needs.{needs}
 use Rattle.site.specs.Fields.{limits}
 use Rattle.leaflet.proofs.FigureFields.{place-below, most-of}
-use Rattle.leaflet.proofs.page.most_of.Statement.{statement}
-use Rattle.leaflet.proofs.page.most_of.Tie as tie
+use Rattle.leaflet.proofs.figure.most_of.Statement.{statement}
+use Rattle.leaflet.proofs.figure.most_of.Tie as tie
 
 place-of-requires : tie.Need-place-of-requires
 place-of-requires c κs = search needs

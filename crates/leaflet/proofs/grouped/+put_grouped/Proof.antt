@@ -1,19 +1,19 @@
--- `leaflet::page::put_grouped` meets its contract: a number's digits are those of its thousands, and the last three. The measure is the number.
+-- `leaflet::grouped::put_grouped` meets its contract: a number's digits are those of its thousands, and the last three. The measure is the number.
 -- Assumes nothing.
 use native.Mathlib.Omega.{arith}
 use borrow.Author.Needs.{needs}
 use Rattle.text.proofs.Puts.{put-as}
-use Rattle.leaflet.proofs.Grouped.{grouped-one, thousands-end, put-grouped-last}
+use Rattle.leaflet.proofs.Threes.{grouped-one, thousands-end, put-grouped-last}
 use Prim.Native.Nat.{ℕ, _<_}
 use borrow.Fn.Kinds.{In}
 use borrow.Fn.PlainCycle.{Measures, is, falls, and}
-use Rattle.leaflet.proofs.page.put_grouped.Reads as put-grouped
-use Rattle.leaflet.proofs.page.put_grouped.Kinds as put-grouped-kinds
-use Rattle.leaflet.proofs.page.+put_grouped.Lts-put_grouped as put-grouped-lts
-use Rattle.leaflet.proofs.page.put_last_three.Reads as put-last-three-reads
+use Rattle.leaflet.proofs.grouped.put_grouped.Reads as put-grouped
+use Rattle.leaflet.proofs.grouped.put_grouped.Kinds as put-grouped-kinds
+use Rattle.leaflet.proofs.grouped.+put_grouped.Lts-put_grouped as put-grouped-lts
+use Rattle.leaflet.proofs.grouped.put_last_three.Reads as put-last-three-reads
 use Rattle.text.proofs.put_decimal.Reads as put-decimal-reads
-use Rattle.leaflet.proofs.page.+put_grouped.{statement}
-use Rattle.leaflet.proofs.page.+put_grouped.Tie.{close}
+use Rattle.leaflet.proofs.grouped.+put_grouped.{statement}
+use Rattle.leaflet.proofs.grouped.+put_grouped.Tie.{close}
 
 abbrev μ-put-grouped : Measures 1 put-grouped-kinds.ps ℕ
 μ-put-grouped κs a = a .1 .1 .0

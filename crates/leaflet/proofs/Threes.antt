@@ -12,7 +12,7 @@ use Rattle.text.specs.Decimal.{decimal}
 use Rattle.text.specs.Internal.{Put}
 use Rattle.text.proofs.Digits.{digits-length}
 use Rattle.text.proofs.Puts.{put-then, put-as}
-use Rattle.leaflet.specs.Leaflet.{lastThree, groupedWithin, grouped}
+use Rattle.leaflet.specs.Grouped.{lastThree, groupedWithin, grouped}
 use Rattle.leaflet.specs.Internal.{groupedMost}
 
 -- a number below 1,000 has no comma; a larger one is that of its thousands, and the last three digits
