@@ -1,11 +1,11 @@
--- For the contracts between the functions: how long numbers and a rule's words may be, and that a figure's most holds at every age.
+-- For the contracts between the functions: room for numbers and for a rule's words, and that a figure's most holds at every age.
 -- Assumes nothing.
 use mathlib.Core.Path.{_≡_}
 use Prim.Native.Nat.{ℕ, suc, _≤_, _<_}
 use Rattle.site.specs.Fields.{limits, at}
 use Rattle.leaflet.specs.Figures.{placeOf, mostOf}
 
--- bytes of a number below 10^12 with its commas, at most
+-- bytes kept for a number: ten digits, and three times a comma and three digits
 abbrev pub groupedMost : ℕ
 groupedMost = 22
 
