@@ -5,6 +5,8 @@
 //! The model is made to be read beside the paper, not to be fast: every sum is
 //! taken in 128 bits, and `cargo test` checks each for overflow. `fast` is a second,
 //! quick writing of the same rules, and `ffi` (feature `engine`) calls the engine itself.
+//! `leaflet` is what the engine's own program prints: `makecard` goes by its limits, the
+//! model by those of the paper.
 
 #![deny(unsafe_code)]
 #![warn(missing_docs)]
@@ -23,6 +25,7 @@ pub mod ffi;
 pub mod figures;
 pub mod foods;
 pub mod kinetics;
+pub mod leaflet;
 pub mod printout;
 pub mod random;
 pub mod refusal;

@@ -15,6 +15,7 @@ use jurengate_model::card::{self, card_row, Form, CARD_FIELDS, FORMS, GOES};
 use jurengate_model::cards::{block_of, curves, foods_file, published};
 use jurengate_model::figures::KEYS;
 use jurengate_model::foods::{self, Foods, FOODS_FIGURES, FOODS_NUMBER};
+use jurengate_model::leaflet::{leaflet, Line};
 use jurengate_model::refusal::{Refusal, ACCEPTED};
 use jurengate_model::site::{self, AGES, SITE_FIELDS};
 use limits::{are_foods_ends, are_row_ends, are_site_ends, foods_bytes, number, BLOOD_VOLUME_MOST};
@@ -71,9 +72,14 @@ fn the_names_are_those_of_the_figures() {
     assert_eq!(KEYS.map(|key| key.name).to_vec(), names.iter().map(|place| place.0).collect::<Vec<_>>());
 }
 
+/// The table of site fields.
+fn site_table(page: &str) -> Vec<Cells> {
+    table(page, &["bytes", "fields", "name", "unit", "least", "most", "what"])
+}
+
 #[test]
 fn the_site_fields_are_the_models() {
-    let rows = table(&format(), &["bytes", "fields", "name", "unit", "least", "most", "what"]);
+    let rows = site_table(&format());
     assert_eq!(rows.len(), SITE.len());
     for (cells, (name, place, fields)) in rows.iter().zip(SITE) {
         assert_eq!(cells[2], format!("`{name}`"));
@@ -85,6 +91,30 @@ fn the_site_fields_are_the_models() {
             assert!(are_site_ends(field, least, most), "{name}");
         }
     }
+}
+
+/// A unit as the leaflet has it, which is ASCII.
+fn plain_unit(cell: &str) -> String {
+    match cell {
+        "" => "-".to_string(),
+        unit => unit.replace('µ', "u").replace('³', "3"),
+    }
+}
+
+/// The line of the leaflet that a row of the table would be.
+fn leaflet_line(cells: &Cells) -> Line {
+    let (first, last) = ends(&cells[1]);
+    let (name, unit) = (cells[2].trim_matches('`').to_string(), plain_unit(&cells[3]));
+    Line { name, count: last + 1 - first, unit, least: count(&cells[4]), most: count(&cells[5]) }
+}
+
+#[test]
+fn the_site_fields_are_the_leaflets() {
+    let page = format();
+    let lines: Vec<Line> = site_table(&page).iter().map(leaflet_line).collect();
+    assert_eq!(lines, leaflet().lines);
+    let rule = format!("a first-draw and a fountain share that are together over {}.", leaflet().shares_most);
+    assert!(page.contains(&rule), "{rule}");
 }
 
 /// Grams and single figures are two tables, each with bytes, figure and limits.

@@ -3,7 +3,8 @@
 use super::Card;
 use crate::cards::published;
 use crate::foods::{food, local, GRAMS_MOST, LEAD_MOST, LOCAL_SHARES_MOST};
-use crate::site::{self, place, AGES};
+use crate::leaflet::leaflet;
+use crate::site::{place, AGES};
 
 /// What a key fills on a card.
 #[derive(Clone, Copy, Debug, PartialEq, Eq)]
@@ -200,7 +201,7 @@ impl Key {
     /// The lowest of its figures; all ages have the same.
     pub(super) fn least(&self) -> u32 {
         match self.place {
-            Site(from) => site::least(from),
+            Site(_) => leaflet().line(self.name).least,
             _ => 0,
         }
     }
@@ -208,7 +209,7 @@ impl Key {
     /// The highest of its figures.
     pub(super) fn most(&self) -> u32 {
         match self.place {
-            Site(from) => site::most(from),
+            Site(_) => leaflet().line(self.name).most,
             Grams(_) => GRAMS_MOST.into(),
             Lead(_) | LocalLead(_) => LEAD_MOST,
             Share(_) => LOCAL_SHARES_MOST as u32,

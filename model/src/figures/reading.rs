@@ -4,6 +4,7 @@ use super::keys::{index_of, key_of, Key, Place, KEYS};
 use super::spelling::nearest_key;
 use super::{Card, Fields};
 use crate::foods::{local, Foods};
+use crate::leaflet::leaflet;
 use crate::site::{place, AGES};
 use std::fmt;
 
@@ -110,12 +111,22 @@ type Shares = [Place; 2];
 const WATER_SHARES: Shares = [Place::Site(place::FIRST_DRAW_SHARE), Place::Site(place::FOUNTAIN_SHARE)];
 const MEAT_SHARES: Shares = [Place::Share(local::FISH), Place::Share(local::GAME)];
 
+/// The most of two shares together: the water's by the leaflet's rule, the meat's as of each alone.
+fn most_together(shares: Shares) -> u32 {
+    if shares == WATER_SHARES {
+        leaflet().shares_most
+    } else {
+        key_of(shares[0]).most()
+    }
+}
+
 /// What is wrong with two shares together.
 fn shares_mistake(card: &Card, shares: Shares) -> Option<String> {
     let [one, other] = shares.map(key_of);
     let sum: u64 = [one, other].iter().map(|key| u64::from(key.of(card)[0])).sum();
-    let told = format!("{} and {} are {sum} % together, over {} %", one.name, other.name, one.most());
-    (sum > one.most().into()).then_some(told)
+    let most = most_together(shares);
+    let told = format!("{} and {} are {sum} % together, over {most} %", one.name, other.name);
+    (sum > most.into()).then_some(told)
 }
 
 /// Every figure of some keys that is outside its limits, and their shares, in words.

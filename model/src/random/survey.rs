@@ -1,7 +1,7 @@
 //! Random rows of batch cards: figures written in every way, gaps, and what is wrong with a row.
 
 use super::{Generator, Range};
-use crate::card::{field, Form, CARD_FIELDS, FIELD_MOST, FORMS, GOES, HEADING_LINES};
+use crate::card::{field, Form, Goes, CARD_FIELDS, FIELD_MOST, FORMS, GOES, HEADING_LINES};
 use crate::site;
 use crate::state::MONTHS;
 
@@ -169,7 +169,12 @@ fn break_text(texts: &mut FieldTexts, fault: TextFault) {
 /// The least figure over the limit of this place of `GOES` that eight bytes can write.
 pub fn over(which: usize) -> String {
     let goes = GOES[which];
-    let most = u128::from(site::most(goes.to)) / goes.factor;
+    just_over(&goes, site::most(goes.to))
+}
+
+/// The least figure over a limit that eight bytes can write; the limit is in the site's unit.
+pub fn just_over(goes: &Goes, most: u32) -> String {
+    let most = u128::from(most) / goes.factor;
     if FORMS[goes.from] == Form::Whole {
         return (most + 1).to_string();
     }

@@ -22,13 +22,29 @@ fn are_ends(least: u32, most: u32, fits: impl Fn(u32) -> bool) -> bool {
     fits(least) && fits(most) && !below && !above
 }
 
-/// Whether a site field has these ends if every other field leaves it free.
+/// Fields that leave each one free.
+pub fn free_fields() -> [u32; SITE_FIELDS] {
+    let mut fields = [0; SITE_FIELDS];
+    fields[place::SATURATION] = SATURATION_LEAST;
+    fields
+}
+
+/// Whether a site field has these ends by the model's rules.
 pub fn are_site_ends(place: usize, least: u32, most: u32) -> bool {
+    are_site_ends_by(within_limits, place, least, most)
+}
+
+/// Whether a site field has these ends by what a reader takes, if every other field leaves it free.
+pub fn are_site_ends_by(
+    takes: impl Fn(&[u32; SITE_FIELDS]) -> bool,
+    place: usize,
+    least: u32,
+    most: u32,
+) -> bool {
     are_ends(least, most, |value| {
-        let mut fields = [0; SITE_FIELDS];
-        fields[place::SATURATION] = SATURATION_LEAST;
+        let mut fields = free_fields();
         fields[place] = value;
-        within_limits(&fields)
+        takes(&fields)
     })
 }
 
