@@ -8,12 +8,17 @@ mod limits;
 #[allow(dead_code)] // the leaflet has no foods and no rows
 #[path = "support/places.rs"]
 mod places;
+#[path = "support/repository.rs"]
+mod repository;
 
+use jurengate_model::card::GOES;
 use jurengate_model::figures::{outside_site, site_fields, text_of, Card, KEYS};
-use jurengate_model::leaflet::leaflet;
+use jurengate_model::leaflet::{leaflet, LEAFLET};
 use jurengate_model::site::{least, most, within_limits, SATURATION_LEAST, SHARES_MOST, SITE_FIELDS};
 use leaflet_ends::hold_to_leaflet;
-use places::SITE;
+use limits::number;
+use places::{CARD, SITE};
+use std::fs;
 
 #[test]
 fn the_fields_limits_and_rules_are_the_models() {
@@ -60,4 +65,26 @@ fn makecard_prints_the_leaflet_s_limits() {
     }
     let share = format!("first-draw share, with the fountain's at most {};", leaflet().shares_most);
     assert!(text.contains(&share), "{share}");
+}
+
+/// README's lines of the leaflet are the leaflet's, and its table of a survey's fields has the leaflet's limits.
+#[test]
+fn the_readme_s_limits_are_the_leaflets() {
+    let readme = fs::read_to_string(repository::at("README.md")).expect("the repository's README");
+    let (_, shown) = readme.split_once("target/bin/leaflet\n").expect("README runs the program");
+    let lines: Vec<&str> = shown.lines().map_while(|line| line.strip_prefix("    ")).collect();
+    assert!(lines.len() >= 6, "{lines:?}");
+    for line in lines.into_iter().filter(|line| *line != "..") {
+        assert!(LEAFLET.lines().any(|due| due == line), "{line}");
+    }
+    for goes in &GOES {
+        let (name, ..) = CARD[goes.from];
+        let is_its =
+            |row: &&str| row.split('|').nth(1).is_some_and(|cell| cell.contains(&name.to_uppercase()));
+        let row = readme.lines().find(is_its).expect("a row for each figure");
+        let (_, behind) = row.split_once("at most ").expect("a limit");
+        let most = behind.split(' ').next().and_then(number).expect("a number");
+        let (figure, ..) = SITE.into_iter().find(|place| place.1 == goes.to).expect("a site figure");
+        assert_eq!(u128::from(most) * goes.factor, leaflet().line(figure).most.into(), "{name}");
+    }
 }
