@@ -110,9 +110,10 @@ pub const SHARES_MOST: u64 = 100; // hundredths
 fn within_limits(fields: [u32; places::FIELDS]) -> bool
     ensures { λ r. ⌜ r ≡ withinLimits fields ⌝ }
 {
+    let limits = LIMITS; // once, and not at each turn
     let mut place: usize = 0;
     while place < places::FIELDS {
-        if fields[place] > LIMITS[place] {
+        if fields[place] > limits[place] {
             return false;
         }
         place = place + 1;
