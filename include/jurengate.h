@@ -79,16 +79,16 @@
 #define JURENGATE_BLOOD_MOST 50000000                      /* the largest blood figure, thousandths of ug/dL */
 
 /* Bytes of stack that suffice for each call, memcpy and memset included. */
-#define JURENGATE_STACK_READ_SITE 1680
+#define JURENGATE_STACK_READ_SITE 2384
 #define JURENGATE_STACK_READ_BOOK 360
 #define JURENGATE_STACK_WRITE_BLOCK 272
-#define JURENGATE_STACK_BIRTH 13960
-#define JURENGATE_STACK_MONTH 13200
-#define JURENGATE_STACK_RUN 14360
+#define JURENGATE_STACK_BIRTH 14760
+#define JURENGATE_STACK_MONTH 14000
+#define JURENGATE_STACK_RUN 15120
 #define JURENGATE_STACK_READ_FOODS 384
-#define JURENGATE_STACK_BIRTH_FOODS 14000
-#define JURENGATE_STACK_MONTH_FOODS 13240
-#define JURENGATE_STACK_RUN_FOODS 14400
+#define JURENGATE_STACK_BIRTH_FOODS 14760
+#define JURENGATE_STACK_MONTH_FOODS 14000
+#define JURENGATE_STACK_RUN_FOODS 15160
 
 /* What a call answers. JURENGATE_NO_STATE: the month is over 84, the compartments are together over JURENGATE_BURDEN_MOST, or these
  * and the ledgers together over JURENGATE_BURDEN_MOST + month * JURENGATE_MONTH_UPTAKE_MOST. */

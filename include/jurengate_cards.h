@@ -61,7 +61,7 @@
 #define JURENGATE_CARD_FIELD_BYTES 8 /* the longest field, ID too */
 
 /* Bytes of stack that suffice for the call, memcpy and memset included. */
-#define JURENGATE_STACK_CARD_ROW 11700
+#define JURENGATE_STACK_CARD_ROW 12100
 
 /* What the call answers beside the refusals of jurengate.h. JURENGATE_FIELD_OUTSIDE_LIMITS is the site file's, or a figure of the
  * row over the limit that stands below. */
