@@ -6,7 +6,6 @@ use native.Mathlib.Decide.{decLt}
 use native.Mathlib.Omega.{arith}
 use borrow.Author.Tests.{lt-ltb, le-ltb}
 use Rattle.site.specs.Fields.{ages, groups, singlesAt, fieldCount, at, limits}
-use Rattle.site.proofs.FieldTests.{limit-small}
 use Rattle.site.proofs.PutFits.{group-limit}
 use Rattle.leaflet.specs.Figures.{figures, placeOf, mostOf}
 use Rattle.leaflet.specs.Internal.{MostOf}
@@ -18,12 +17,12 @@ module _ (figure : ℕ) where
   pub singly : groups ≤ figure → singlesAt + (figure - groups) ≡ placeOf figure
   singly h = rw (le-ltb figure groups h)
 
--- from one figure's first field to the next one's are its ages, or it alone
+-- behind the ages of a figure stands the next one's first field
 next-place : (figure : ℕ) → figure < groups → placeOf (suc figure) ≡ ages * suc figure
 next-place figure h =
     elim (decLt (suc figure) groups) [
       | yes l ↦ sym (by-age (suc figure) l)
-      | no l ↦ sym (singly (suc figure) (omega arith)) ∙ (omega arith)
+      | no l ↦ sym (singly (suc figure) (omega arith)) ∙ omega arith
     ]
 
 module _ (figure : ℕ) (one : figure < figures) where
@@ -52,6 +51,3 @@ module _ (figure : ℕ) (one : figure < figures) where
         is = ap (at limits) e;
         each = λ place a b. each-limit place a b ∙ ap (at limits) (sym e);
       }
-
-  pub most-small : mostOf figure ≤ 1_000_000_000
-  most-small = limit-small (placeOf figure) place-below

@@ -2,7 +2,7 @@
 -- Assumes nothing.
 use mathlib.Core.Path.{_≡_, refl, ap}
 use mathlib.Core.Bool.{Bool, true, false, cond}
-use mathlib.Core.List.{List, [], _∷_, _++_}
+use mathlib.Core.List.{List, [], _∷_}
 use Prim.Native.Nat.{ℕ, _+_, _-_, _≤_}
 use native.Mathlib.Omega.{arith}
 use lib.ListN.{length, replicate}
@@ -15,7 +15,7 @@ use Rattle.site.specs.Fields.{singlesAt, saturationAt}
 use Rattle.leaflet.specs.Figures.{placeOf, leastOf, mostOf}
 use Rattle.leaflet.specs.Grouped.{groupedWithin, grouped}
 use Rattle.leaflet.specs.Leaflet.{labelBytes, leastBytes, figureLine, ruleLine}
-use Rattle.leaflet.specs.Internal.{groupedMost, wordsMost}
+use Rattle.leaflet.specs.Internal.{groupedMost, lineBytes, wordsMost}
 
 -- either least fits its column
 either-short : (b : Bool) → length (grouped (cond b 1_000_000 0)) ≤ leastBytes
@@ -35,9 +35,9 @@ module _ (figure : ℕ) {l m label : List ℕ} {least i j : ℕ} (long : length 
   pub figure-put :
       {a b c e : List ℕ} {most o p q : ℕ} → most ≡ mostOf figure → Put m i (grouped least) groupedMost a j
       → Put a j (replicate (labelBytes + leastBytes - j) space) (labelBytes + leastBytes - j) b o → Put b o (grouped most) groupedMost c p
-      → Put c p (lineFeed ∷ []) 1 e q → Put l 0 (figureLine label figure) 96 e q
+      → Put c p (lineFeed ∷ []) 1 e q → Put l 0 (figureLine label figure) lineBytes e q
   unfolding figureLine
-  figure-put {most = most} {o} {p} {q} highest g blanks h feed =
+  figure-put highest g blanks h feed =
       let left : labelBytes + leastBytes - j ≡ leastBytes - length (grouped (leastOf figure)) =
       omega (arith, long, f .past, g .past, ap (λ (n : ℕ). length (grouped n)) is) in
       put-as (put-then f (put-then (put-then g blanks) (put-then h feed)))
@@ -47,6 +47,6 @@ module _ (figure : ℕ) {l m label : List ℕ} {least i j : ℕ} (long : length 
 -- a rule's line is put
 pub rule-put :
     (number : ℕ) {l m a e words : List ℕ} {i j q : ℕ} → length words ≤ wordsMost → Put l 0 words (length words) m i → Put m i (grouped number) groupedMost a j
-    → Put a j (lineFeed ∷ []) 1 e q → Put l 0 (ruleLine words number) 96 e q
+    → Put a j (lineFeed ∷ []) 1 e q → Put l 0 (ruleLine words number) lineBytes e q
 unfolding ruleLine
 rule-put number short f g feed = put-as (put-then f (put-then g feed)) refl (omega (arith, f .small, g .small, feed .small))

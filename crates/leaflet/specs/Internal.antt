@@ -9,7 +9,10 @@ use Rattle.leaflet.specs.Figures.{placeOf, mostOf}
 abbrev pub groupedMost : ℕ
 groupedMost = 22
 
--- bytes of a rule's words at most, so that its line fits
+-- bytes that every line fits in, and of a rule's words at most, so that its line does
+abbrev pub lineBytes : ℕ
+lineBytes = 96
+
 abbrev pub wordsMost : ℕ
 wordsMost = 70
 

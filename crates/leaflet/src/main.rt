@@ -16,7 +16,8 @@ mod figure; // figure.rt: a figure of a site file, its least and its most
 mod grouped; // grouped.rt: numbers with commas
 mod page; // page.rt: a line of the leaflet
 
-// Prints a line for each figure, in the fields' order, and answers whether all could be written.
+// Prints a line for each figure, in the fields' order, and answers whether all could be written. A label is the figure's name, its ages
+// (0-6 for a field for each, all for one field) and its unit.
 fn print_figures(labels: &[u8]) -> bool
     requires { ⌜ length (now labels) ≡ figures * labelBytes ⌝ }
 {

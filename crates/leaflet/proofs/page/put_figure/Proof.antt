@@ -1,9 +1,8 @@
 -- `leaflet::page::put_figure` meets its contract: each part put after the one before.
 -- Assumes nothing.
-use native.Mathlib.Omega.{arith}
+use mathlib.Core.Path.{refl}
 use borrow.Author.Needs.{needs}
 use Rattle.text.proofs.Puts.{put-line}
-use mathlib.Core.Path.{refl}
 use Rattle.leaflet.proofs.PageLines.{least-end, figure-put}
 use Rattle.leaflet.proofs.page.put_figure.Statement.{statement}
 use Rattle.leaflet.proofs.page.put_figure.Tie as tie
