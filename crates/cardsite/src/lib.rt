@@ -13,6 +13,7 @@ ghost use Prim.Native.Nat.{_+_, _≤_, _<_};
 ghost use lib.ListN.{set};
 ghost use Rattle.site.specs.Fields.{ages, fieldCount, at, limits};
 ghost use Rattle.site.specs.Put.{putFrom};
+ghost use Rattle.card.specs.declared.RowRead.the-variants.{Accepted};
 ghost use Rattle.card.specs.Row.{readKept};
 ghost use Rattle.cardsite.specs.Over.{over, overLimit};
 ghost use Rattle.cardsite.specs.Start.{startOf};
@@ -154,20 +155,25 @@ pub fn row_scenario(card: Card, scenario: Scenario) -> Scenario
     }
 }
 
-// What becomes of a row: 12, then a skip, then its own 7.
+// What becomes of a card: a skip, then its own 7.
+pub fn start_card(card: Card) -> Start
+    ensures { λ r. ⌜ r ≡ startOf (Accepted card) ⌝ }
+{
+    if card::skipped(card) {
+        return Start::Skipped;
+    }
+    if over_limit(card) {
+        return Start::Refused(OVER_LIMIT);
+    }
+    Start::Runs(card)
+}
+
+// What becomes of a row: 12, then what becomes of its card.
 pub fn start_row(row: RowText) -> Start
     ensures { λ r. ⌜ r ≡ startOf (readKept row) ⌝ }
 {
     match card::read_card(row) {
-        RowRead::Accepted(card) => {
-            if card::skipped(card) {
-                return Start::Skipped;
-            }
-            if over_limit(card) {
-                return Start::Refused(OVER_LIMIT);
-            }
-            Start::Runs(card)
-        }
+        RowRead::Accepted(card) => start_card(card),
         RowRead::Refused(number) => Start::Refused(number),
     }
 }

@@ -9,10 +9,10 @@ use Rattle.text.specs.Characters.{lineFeed, space}
 use Rattle.numbers.specs.Lists.{Each}
 use Rattle.lines.specs.declared.Reader.{Reader}
 use Rattle.lines.specs.declared.Walk.{Walk}
-use Rattle.lines.specs.Text.{linesOf, rowsOf, fieldsOf}
+use Rattle.lines.specs.Text.{linesOf, lineStart, rowsOf, fieldsOf}
 use Rattle.lines.specs.Summary.{summaryOf, fed}
 use Rattle.lines.specs.Answers.{answerOf, answerIn}
-use Rattle.lines.specs.Stream.{after, ended, readRows}
+use Rattle.lines.specs.Stream.{rowStart, after, ended, last, readRows}
 use Rattle.lines.specs.Walk.{walkOf, rowIn}
 
 -- no byte of the list is b
@@ -52,6 +52,14 @@ AnswersLaw A = (answer : List (List ℕ) → A) (refused : A) (row : List ℕ) �
 -- a text that is read a byte at a time gives what is kept of its rows, in its order
 abbrev pub RowsLaw : Type 0
 RowsLaw = (text : List ℕ) → readRows text ≡ map summaryOf (rowsOf text)
+
+-- and so does a text of rows alone
+abbrev pub PlainRowsLaw : Type 0
+PlainRowsLaw = (text : List ℕ) → ended rowStart text ++ last (after rowStart text) ≡ map summaryOf (linesOf text)
+
+-- the lines of a text from the start of line k on are its lines after the first k
+abbrev pub LineStartLaw : Type 0
+LineStartLaw = (k : ℕ) (text : List ℕ) → linesOf (drop (lineStart k text) text) ≡ drop k (linesOf text)
 
 -- a text cut in two leads where the whole text leads, and the same rows end in it; and so, cut by cut, in any pieces
 pub record Cut (r : Reader) (xs ys : List ℕ) : Type 0 where

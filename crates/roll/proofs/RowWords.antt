@@ -1,0 +1,154 @@
+-- The words of a row: a card that runs fits them, and they say what becomes of it.
+-- Assumes nothing.
+use Prim.Native.Nat.{ℕ, suc, _≤_, _<_}
+use mathlib.Core.Path.{_≡_, refl, sym, ap, _∙_}
+use mathlib.Core.Bool.{Bool, true, false, true≢false}
+use mathlib.Core.List.{List}
+use native.Mathlib.Omega.{arith}
+use borrow.Author.Tests.{eq-eqb, ne-eqb, ltb-false}
+use lib.ListN.{length}
+use Rattle.site.specs.Fields.{fieldCount, at, limits, airGroup, soilGroup, dustGroup, alternateGroup, constantAt, absorbedDustAt, absorbedSoilAt}
+use Rattle.site.proofs.FieldTests.{limit-small}
+use Rattle.lines.specs.declared.RowText.{RowText}
+use Rattle.card.specs.declared.Value.{Value}
+use Rattle.card.specs.declared.Value.the-variants.{Missing, Figure}
+use Rattle.card.specs.declared.Card.{Card}
+use Rattle.card.specs.declared.RowRead.{RowRead}
+use Rattle.card.specs.declared.RowRead.the-variants as read
+use Rattle.card.specs.Row.{readKept}
+use Rattle.card.specs.Values.{monthsOf}
+use Rattle.cardsite.specs.declared.Start.{Start}
+use Rattle.cardsite.specs.declared.Start.the-variants.{Runs, Skipped, Refused}
+use Rattle.cardsite.specs.Over.{over, overAges, overSingle, overLimit}
+use Rattle.cardsite.specs.Start.{startOf}
+use Rattle.cardsite.specs.Laws.{Running}
+use Rattle.cardsite.proofs.Limited.{or-none, upToSoil, upToDust, upToWater, upToAir, upToOther, upToAbssoil}
+use Rattle.cardsite.proofs.Starts.{runs-within}
+use Rattle.roll.specs.Words.{wordsARow, gapWord, wordOf, valueIn, cardWords, startWords, cardIn, startIn}
+use Rattle.roll.specs.Internal.{Kept}
+use Rattle.roll.specs.Laws.{WordsLaw}
+
+-- a word is a gap or a figure
+pub value-gap : (w : ℕ) → w ≡ gapWord → Missing ≡ valueIn w
+value-gap w e = rw (eq-eqb w gapWord e)
+
+pub value-figure : (w : ℕ) → (w ≡ gapWord → ⊥) → Figure w ≡ valueIn w
+value-figure w n = rw (ne-eqb w gapWord n)
+
+-- a value that is not over its limit, as a word
+module _ (place : ℕ) (h : place < fieldCount) where
+  value-fits : (v : Value) → over (at limits place) v ≡ false → wordOf v ≤ gapWord
+  value-fits Missing e = omega arith
+  value-fits (Figure n) e = omega (arith, limit-small place h, ltb-false (at limits place) n e)
+
+  value-back : (v : Value) → over (at limits place) v ≡ false → valueIn (wordOf v) ≡ v
+  value-back Missing e = refl
+  value-back (Figure n) e = sym (value-figure n (λ z. absurd (omega (arith, limit-small place h, ltb-false (at limits place) n e))))
+
+-- the seven figures of a card, each within its own limit
+record OwnWithin (c : Card) : Type 0 where
+  soil : overAges soilGroup (c .soil) ≡ false
+  dust : overAges dustGroup (c .dust) ≡ false
+  water : overSingle constantAt (c .water) ≡ false
+  air : overAges airGroup (c .air) ≡ false
+  other : overAges alternateGroup (c .other) ≡ false
+  abssoil : overSingle absorbedSoilAt (c .abssoil) ≡ false
+  absdust : overSingle absorbedDustAt (c .absdust) ≡ false
+
+own-within : (c : Card) → overLimit c ≡ false → OwnWithin c
+unfolding overLimit
+own-within c passed =
+    let absdust = or-none (upToAbssoil c) (overSingle absorbedDustAt (c .absdust)) passed in
+    let abssoil = or-none (upToOther c) (overSingle absorbedSoilAt (c .abssoil)) (absdust .0) in
+    let other = or-none (upToAir c) (overAges alternateGroup (c .other)) (abssoil .0) in
+    let air = or-none (upToWater c) (overAges airGroup (c .air)) (other .0) in
+    let water = or-none (upToDust c) (overSingle constantAt (c .water)) (air .0) in
+    let both = or-none (upToSoil c) (overAges dustGroup (c .dust)) (water .0) in
+    record {
+      soil = both .0;
+      dust = both .1;
+      water = water .1;
+      air = air .1;
+      other = other .1;
+      abssoil = abssoil .1;
+      absdust = absdust .1;
+    }
+
+-- a card that runs fits its words
+pub running-kept : (c : Card) → Running c → Kept c
+running-kept c run =
+    let own = own-within c (run .within) in
+    record {
+      age = omega (arith, run .last);
+      soil = value-fits _ (omega arith) (c .soil) (own .soil);
+      dust = value-fits _ (omega arith) (c .dust) (own .dust);
+      water = value-fits _ (omega arith) (c .water) (own .water);
+      air = value-fits _ (omega arith) (c .air) (own .air);
+      other = value-fits _ (omega arith) (c .other) (own .other);
+      abssoil = value-fits _ (omega arith) (c .abssoil) (own .abssoil);
+      absdust = value-fits _ (omega arith) (c .absdust) (own .absdust);
+    }
+
+-- and is the card that they are
+age-back : (v : Value) → 1 ≤ monthsOf v → Figure (monthsOf v) ≡ v
+age-back Missing h = absurd (omega arith)
+age-back (Figure n) h = refl
+
+card-back : (c : Card) → Running c → cardIn (cardWords c) ≡ c
+unfolding cardIn cardWords
+card-back c run =
+    let own = own-within c (run .within) in
+    rw (
+      age-back (c .age) (run .first),
+      value-back _ (omega arith) (c .soil) (own .soil),
+      value-back _ (omega arith) (c .dust) (own .dust),
+      value-back _ (omega arith) (c .water) (own .water),
+      value-back _ (omega arith) (c .air) (own .air),
+      value-back _ (omega arith) (c .other) (own .other),
+      value-back _ (omega arith) (c .abssoil) (own .abssoil),
+      value-back _ (omega arith) (c .absdust) (own .absdust),
+    )
+
+-- what nine words say, by their first
+module _ (words : List ℕ) where
+  pub says-card : at words 0 ≡ 0 → startOf (read.Accepted (cardIn words)) ≡ startIn words
+  unfolding startIn
+  says-card e = rw e
+
+  pub says-skipped : at words 0 ≡ 1 → Skipped ≡ startIn words
+  unfolding startIn
+  says-skipped e = rw e
+
+  pub says-refused : (at words 0 ≡ 0 → ⊥) → (at words 0 ≡ 1 → ⊥) → Refused (at words 1) ≡ startIn words
+  unfolding startIn
+  says-refused z n = rw (ne-eqb (at words 0) 0 z, ne-eqb (at words 0) 1 n)
+
+-- every card that runs is what becomes of itself
+runs-again : (c : Card) → Running c → startOf (read.Accepted c) ≡ Runs c
+runs-again c run = rw (run .runs, run .within)
+
+words-back : (r : RowRead) (x : Start) → startOf r ≡ x → startIn (startWords x) ≡ x
+unfolding startIn cardWords
+words-back r (Runs c) e =
+    let run = runs-within r c e in
+    ap (λ d. startOf (read.Accepted d)) (card-back c run) ∙ runs-again c run
+words-back r Skipped e = refl
+words-back r (Refused n) e = refl
+
+pub words-law : WordsLaw
+words-law kept = words-back (readKept kept) (startOf (readKept kept)) refl
+
+-- nine words each
+pub words-long : (x : Start) → length (startWords x) ≡ wordsARow
+unfolding cardWords
+words-long (Runs c) = refl
+words-long Skipped = refl
+words-long (Refused n) = refl
+
+-- the words that the code makes, by what becomes of the row
+module _ (kept : RowText) {x : Start} (ex : x ≡ startOf (readKept kept)) where
+  pub runs-kept : (c : Card) → x ≡ Runs c → Kept c
+  runs-kept c e = running-kept c (runs-within (readKept kept) c (sym ex ∙ e))
+
+  pub words-of : (y : Start) → x ≡ y → startWords y ≡ startWords (startOf (readKept kept))
+  words-of y e = ap startWords (sym e ∙ ex)
