@@ -4,18 +4,19 @@ use mathlib.Core.Path.{_≡_, refl, sym, ap, ap₂, _∙_}
 use mathlib.Core.Bool.{Bool}
 use mathlib.Core.List.{List, _++_, append-assoc}
 use Prim.Native.Nat.{ℕ, suc, _+_, _-_, _*_, _/_, _%_, _≤_, _<_}
-use native.Mathlib.Nat.{zero-add}
+use native.Mathlib.Nat.{zero-add, add-zero}
 use native.Mathlib.Numerals.{add-one}
 use native.Mathlib.Omega.{arith}
 use lib.ListN.{length, getD, take, drop, length-append, length-drop, List·getD-append}
 use lib.Seq.{getD-append-add, take-at, length-take-le, take-all}
-use Rattle.numbers.specs.Choice.{unless, tab}
+use Rattle.numbers.specs.Choice.{unless, answerBy, tab}
 use Rattle.numbers.proofs.Every.{every-shift, tab-same, tab-append, length-tab}
-use Rattle.numbers.proofs.Refusals.{orElse-first, orElse-last}
+use Rattle.numbers.proofs.Refusals.{orElse-first, orElse-last, answer-refused}
 use Rattle.block.specs.Block.{blockBytes, blockRefusal, fieldsFrom, fieldsOf, blockAt}
 use Rattle.block.proofs.BlockRefusals.{field}
 use Rattle.row.specs.Row.{numbersARow, rowsABlock, rowNumbers, rowFrom, rowOf, rowFits, rowsFit}
-use Rattle.book.specs.Book.{bookBlocks, numbersABlock, tableNumbers, bookForm, blockNumbers, bookBlockRefusal, blocksRefusal, bookNumber, numbersOf}
+use Rattle.book.specs.declared.BookRead.{BookRead}
+use Rattle.book.specs.Book.{bookBlocks, numbersABlock, tableNumbers, bookForm, blockNumbers, bookBlockRefusal, blocksRefusal, blocksDecoded, bookNumber, numbersOf}
 use Rattle.book.specs.Internal.{placed, BlockDecoded, BookDecoded}
 use Rattle.row.proofs.RowTests.{monthFits}
 
@@ -87,15 +88,17 @@ module _ (n : ℕ) (numbers table : List ℕ) (long : length table ≡ tableNumb
 abbrev pub stored : ℕ → List ℕ → List ℕ → List ℕ
 stored n numbers table = take (numbersABlock * n) table ++ (numbers ++ drop (numbersABlock * n + numbersABlock - numbersABlock * n) (drop (numbersABlock * n) table))
 
--- block n of a book
-module _ (book : List ℕ) (n : ℕ) (table : List ℕ) (long : length table ≡ tableNumbers) where
+-- block n of a book, with so many blocks decoded before
+module _ (book : List ℕ) (n : ℕ) (table : List ℕ) (long : length table ≡ tableNumbers) (decodes : ℕ) where
   -- refused by its header, with the table left
-  pub refused-by-header : (r : ℕ) → r ≡ blockRefusal (take (blockBytes * n + blockBytes - blockBytes * n) (drop (blockBytes * n) book)) (bookForm n) → (r ≡ 0 → ⊥) → BlockDecoded book n table table r
+  pub refused-by-header : (r : ℕ) → r ≡ blockRefusal (take (blockBytes * n + blockBytes - blockBytes * n) (drop (blockBytes * n) book)) (bookForm n) → (r ≡ 0 → ⊥)
+      → BlockDecoded book n table table decodes (record { refusal = r; decodes = decodes + 1 })
   unfolding bookBlockRefusal
   refused-by-header r e h =
       let header : r ≡ blockRefusal (blockAt book n) (bookForm n) = e ∙ ap (λ (b : List ℕ). blockRefusal b (bookForm n)) (lent-block book n) in
       record {
         refusal = sym (rw (← header) (orElse-first r _ h));
+        count = refl;
         long = long;
         table = λ z. absurd (h z);
       }
@@ -119,7 +122,8 @@ module _ (book : List ℕ) (n : ℕ) (table : List ℕ) (long : length table ≡
           ap₂ (λ (x : List ℕ) (k : ℕ). take (numbersABlock * n) table ++ (x ++ drop k (drop (numbersABlock * n) table))) read-numbers count
 
       -- its numbers placed, refused by its rows or not at all
-      pub checked-rows : {fit : Bool} → rowsFit (stored n numbers table) (rowsABlock * n) ≡ fit → BlockDecoded book n table (stored n numbers table) (unless fit 8)
+      pub checked-rows : {fit : Bool} → rowsFit (stored n numbers table) (rowsABlock * n) ≡ fit
+          → BlockDecoded book n table (stored n numbers table) decodes (record { refusal = unless fit 8; decodes = decodes + 1 })
       unfolding bookBlockRefusal unless
       checked-rows {fit} rows =
           let numbers-long = length-numbers (blockAt book n) in
@@ -128,32 +132,49 @@ module _ (book : List ℕ) (n : ℕ) (table : List ℕ) (long : length table ≡
           let passed : blockRefusal (blockAt book n) (bookForm n) ≡ 0 = ap (λ (b : List ℕ). blockRefusal b (bookForm n)) (sym (lent-block book n)) ∙ header in
           record {
             refusal = sym (rw (passed, own) (orElse-last (unless fit 8)));
+            count = refl;
             long = ap length stored-placed ∙ length-placed n (blockNumbers (blockAt book n)) table long below numbers-long;
             table = λ z. stored-placed;
           }
 
--- the loop over the blocks, at block n
-pub record AtBlock (book table : List ℕ) (n : ℕ) : Type 0 where
+-- the loop over the blocks, at block n: each block before it was decoded, and what is left is refused and counted as the whole
+pub record AtBlock (book table : List ℕ) (n decodes : ℕ) : Type 0 where
   pub reach : n ≤ bookBlocks
+  pub counted : decodes ≡ n
   pub long : length table ≡ tableNumbers
   pub refusal : blocksRefusal book n (bookBlocks - n) ≡ blocksRefusal book 0 bookBlocks
+  pub count : decodes + blocksDecoded book n (bookBlocks - n) ≡ blocksDecoded book 0 bookBlocks
   pub front : take (numbersABlock * n) table ≡ tab (numbersABlock * n) (bookNumber book)
 
 module _ (book table : List ℕ) where
-  pub at-first : length table ≡ tableNumbers → AtBlock book table 0
+  pub at-first : length table ≡ tableNumbers → AtBlock book table 0 0
   unfolding tab
-  at-first h = record { reach = omega arith; long = h; refusal = refl; front = refl }
+  at-first h = record { reach = omega arith; counted = refl; long = h; refusal = refl; count = zero-add _; front = refl }
 
-  module _ (n : ℕ) (i : AtBlock book table n) where
-    module _ (h : n < bookBlocks) (after : List ℕ) (r : ℕ) (d : BlockDecoded book n table after r) where
+  module _ (n decodes : ℕ) (i : AtBlock book table n decodes) where
+    pub decodes-below : n < bookBlocks → decodes < bookBlocks
+    decodes-below h = omega (arith, i .counted)
+
+    module _ (h : n < bookBlocks) (after : List ℕ) (r : BookRead) (d : BlockDecoded book n table after decodes r) where
       blocks-left : bookBlocks - n ≡ suc (bookBlocks - (n + 1))
       blocks-left = omega arith
 
-      pub at-refused : (r ≡ 0 → ⊥) → BookDecoded book after r
+      -- the blocks from block n on are this one, and those after it unless it is refused
+      decoded-from : blocksDecoded book n (bookBlocks - n) ≡ suc (answerBy (r .refusal) (blocksDecoded book (n + 1) (bookBlocks - (n + 1))) (λ k. 0))
+      unfolding blocksDecoded
+      decoded-from = rw (blocks-left, d .refusal, add-one n)
+
+      -- this block raises the number
+      raised : (left : ℕ) → blocksDecoded book n (bookBlocks - n) ≡ suc left → r .decodes + left ≡ blocksDecoded book 0 bookBlocks
+      raised left e = omega (arith, e, d .count, i .count)
+
+      pub at-refused : (r .refusal ≡ 0 → ⊥) → BookDecoded book after r
       unfolding blocksRefusal
       at-refused z =
+          let last : blocksDecoded book n (bookBlocks - n) ≡ 1 = decoded-from ∙ ap suc (answer-refused _ (λ k. 0) (r .refusal) z) in
           record {
-            refusal = sym (sym (i .refusal) ∙ rw (blocks-left, ← d .refusal) (orElse-first r (blocksRefusal book (suc n) (bookBlocks - (n + 1))) z));
+            refusal = sym (sym (i .refusal) ∙ rw (blocks-left, ← d .refusal) (orElse-first (r .refusal) (blocksRefusal book (suc n) (bookBlocks - (n + 1))) z));
+            count = omega (arith, raised 0 last);
             long = d .long;
             table = λ e. absurd (z e);
           }
@@ -163,7 +184,7 @@ module _ (book table : List ℕ) where
       numbers-next =
           tab-same numbersABlock (λ (j : ℕ). bookNumber book (numbersABlock * n + j)) (field (blockAt book n)) (number-in-block book n)
 
-      front-next : r ≡ 0 → take (numbersABlock * (n + 1)) after ≡ tab (numbersABlock * (n + 1)) (bookNumber book)
+      front-next : r .refusal ≡ 0 → take (numbersABlock * (n + 1)) after ≡ tab (numbersABlock * (n + 1)) (bookNumber book)
       front-next z =
           let one-more : numbersABlock * (n + 1) ≡ numbersABlock * n + numbersABlock = omega arith in
           rw one-more
@@ -172,22 +193,25 @@ module _ (book table : List ℕ) where
           ∙ ap₂ _++_ (i .front) (sym numbers-next)
           ∙ sym (tab-append (numbersABlock * n) numbersABlock (bookNumber book)))
 
-      pub at-next : r ≡ 0 → AtBlock book after (n + 1)
+      pub at-next : r .refusal ≡ 0 → AtBlock book after (n + 1) (r .decodes)
       unfolding blocksRefusal
       at-next z =
           record {
             reach = omega arith;
+            counted = omega (arith, d .count, i .counted);
             long = d .long;
             refusal = sym (rw (blocks-left, ← d .refusal, z, ← add-one n) at (sym (i .refusal)));
+            count = raised _ (rw z at decoded-from);
             front = front-next z;
           }
 
-    pub at-end : bookBlocks ≤ n → BookDecoded book table 0
-    unfolding blocksRefusal numbersOf
+    pub at-end : bookBlocks ≤ n → BookDecoded book table (record { refusal = 0; decodes = decodes })
+    unfolding blocksRefusal blocksDecoded numbersOf
     at-end h =
         let e : n ≡ bookBlocks = omega (arith, i .reach) in
         record {
           refusal = sym (sym (i .refusal) ∙ rw e);
+          count = sym (add-zero decodes) ∙ (rw e at (i .count));
           long = i .long;
           table = λ z. sym (take-all tableNumbers table (omega (arith, i .long))) ∙ (rw e at (i .front));
         }

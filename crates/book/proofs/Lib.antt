@@ -1,4 +1,5 @@
 pub mod Decode
+pub mod DecodesWithin
 pub mod ReadAnswers
 pub mod ReadBack
 pub mod RowsWithin

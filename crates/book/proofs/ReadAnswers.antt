@@ -8,31 +8,42 @@ use lib.ListN.{length, replicate}
 use borrow.Author.Tests.{eq-eqb, ne-eqb}
 use Rattle.numbers.proofs.Refusals.{orElse-last, answer-refused}
 use Rattle.numbers.specs.Choice.{unless}
-use Rattle.book.specs.Book.{bookBytes, tableNumbers, bookRefusal, numbersOf, blankTable, bookTable}
+use Rattle.book.specs.declared.BookRead.{BookRead}
+use Rattle.book.specs.Book.{bookBytes, tableNumbers, bookRefusal, bookDecodes, numbersOf, blankTable, bookTable}
 use Rattle.book.specs.Internal.{BookDecoded}
 
 module _ (book : List ℕ) where
+  -- what the reader answers, and the table that it leaves
+  abbrev Reads : BookRead → List ℕ → Type 0
+  Reads r table = (r .refusal ≡ bookRefusal book) × ((r .decodes ≡ bookDecodes book) × (table ≡ bookTable book))
+
   -- a refusal, beside a table that was set to zeros
-  refused-blank : (r : ℕ) {size : ℕ} {table : List ℕ} → r ≡ bookRefusal book → (r ≡ 0 → ⊥) → size ≡ tableNumbers → table ≡ replicate size 0
-      → (r ≡ bookRefusal book) × (table ≡ bookTable book)
+  blank-table : (r : ℕ) {size : ℕ} {table : List ℕ} → r ≡ bookRefusal book → (r ≡ 0 → ⊥) → size ≡ tableNumbers → table ≡ replicate size 0 → table ≡ bookTable book
   unfolding bookTable blankTable
-  refused-blank r e h full zeros =
-      (e, zeros ∙ ap (λ (n : ℕ). replicate n 0) full ∙ sym (answer-refused (numbersOf book) (λ n. blankTable) (bookRefusal book) (rw e at h)))
+  blank-table r e h full zeros =
+      zeros ∙ ap (λ (n : ℕ). replicate n 0) full ∙ sym (answer-refused (numbersOf book) (λ n. blankTable) (bookRefusal book) (rw e at h))
 
   pub refused-length : (length book ≡ bookBytes → ⊥) → {size : ℕ} {table : List ℕ} → size ≡ tableNumbers → table ≡ replicate size 0
-      → (1 ≡ bookRefusal book) × (table ≡ bookTable book)
-  unfolding bookRefusal unless
-  refused-length short = refused-blank 1 (rw (ne-eqb (length book) bookBytes short)) (λ z. omega arith)
+      → Reads (record { refusal = 1; decodes = 0 }) table
+  unfolding bookRefusal bookDecodes unless
+  refused-length short full zeros =
+      let wrong = ne-eqb (length book) bookBytes short in
+      let refusal : 1 ≡ bookRefusal book = rw wrong in
+      (refusal, (rw wrong, blank-table 1 refusal (λ z. omega arith) full zeros))
 
   -- if the length is right, by what decoding the blocks answered
-  module _ (long : length book ≡ bookBytes) {decoded : List ℕ} {r : ℕ} (d : BookDecoded book decoded r) where
-    refusal-of-blocks : r ≡ bookRefusal book
+  module _ (long : length book ≡ bookBytes) {decoded : List ℕ} {r : BookRead} (d : BookDecoded book decoded r) where
+    refusal-of-blocks : r .refusal ≡ bookRefusal book
     unfolding bookRefusal unless
-    refusal-of-blocks = rw (eq-eqb (length book) bookBytes long, ← d .refusal) (sym (orElse-last r))
+    refusal-of-blocks = rw (eq-eqb (length book) bookBytes long, ← d .refusal) (sym (orElse-last (r .refusal)))
 
-    pub refused-block : (r ≡ 0 → ⊥) → {table : List ℕ} → table ≡ replicate (length decoded) 0 → (r ≡ bookRefusal book) × (table ≡ bookTable book)
-    refused-block h = refused-blank r refusal-of-blocks h (d .long)
+    decodes-of-blocks : r .decodes ≡ bookDecodes book
+    unfolding bookDecodes unless
+    decodes-of-blocks = rw (eq-eqb (length book) bookBytes long) (d .count)
 
-    pub accepted-book : r ≡ 0 → (0 ≡ bookRefusal book) × (decoded ≡ bookTable book)
+    pub refused-block : (r .refusal ≡ 0 → ⊥) → {table : List ℕ} → table ≡ replicate (length decoded) 0 → Reads r table
+    refused-block h zeros = (refusal-of-blocks, (decodes-of-blocks, blank-table (r .refusal) refusal-of-blocks h (d .long) zeros))
+
+    pub accepted-book : r .refusal ≡ 0 → Reads r decoded
     unfolding bookTable
-    accepted-book z = (sym z ∙ refusal-of-blocks, d .table z ∙ rw (sym refusal-of-blocks ∙ z))
+    accepted-book z = (refusal-of-blocks, (decodes-of-blocks, d .table z ∙ rw (sym refusal-of-blocks ∙ z)))

@@ -41,12 +41,25 @@ unfoldable pub blocksRefusal : List ℕ → ℕ → ℕ → ℕ
 blocksRefusal book n zero = 0
 blocksRefusal book n (suc k) = orElse (bookBlockRefusal (blockAt book n) n) (blocksRefusal book (suc n) k)
 
+-- how many blocks are decoded, of k from block n on: up to the first that is refused, and with it
+unfoldable pub blocksDecoded : List ℕ → ℕ → ℕ → ℕ
+blocksDecoded book n zero = 0
+blocksDecoded book n (suc k) = suc (answerBy (bookBlockRefusal (blockAt book n) n) (blocksDecoded book (suc n) k) (λ r. 0))
+
+-- 1: a wrong length
+abbrev pub bookLengthRefusal : List ℕ → ℕ
+bookLengthRefusal book = unless (eqb (length book) bookBytes) 1
+
 -- why a book is refused
 abbrev pub bookRefusals : List ℕ → List ℕ
-bookRefusals book = unless (eqb (length book) bookBytes) 1 ∷ blocksRefusal book 0 bookBlocks ∷ []
+bookRefusals book = bookLengthRefusal book ∷ blocksRefusal book 0 bookBlocks ∷ []
 
 unfoldable pub bookRefusal : List ℕ → ℕ
 bookRefusal book = firstOf (bookRefusals book)
+
+-- how many blocks are decoded to read a book: none of one with a wrong length
+unfoldable pub bookDecodes : List ℕ → ℕ
+bookDecodes book = answerBy (bookLengthRefusal book) (blocksDecoded book 0 bookBlocks) (λ r. 0)
 
 -- number j of a book stands in block j / 115, at its place j % 115; the book's 85 rows of 23 numbers
 abbrev pub bookNumber : List ℕ → ℕ → ℕ

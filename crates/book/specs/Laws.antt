@@ -9,7 +9,7 @@ use Rattle.block.specs.Block.{blockBytes, fieldAt, checkAt, checkOf, blockAt}
 use Rattle.block.specs.Writer.{written, bodyOf, BodyPasses}
 use Rattle.row.specs.Row.{lastMonth, rowOf, rowFits, rowsFit}
 use Rattle.row.specs.Limits.{RowLimits}
-use Rattle.book.specs.Book.{bookBlocks, bookBytes, numbersABlock, tableNumbers, bookForm, blockNumbers, bookBlockRefusal, numbersOf, bookRefusal, bookTable}
+use Rattle.book.specs.Book.{bookBlocks, bookBytes, numbersABlock, tableNumbers, bookForm, blockNumbers, bookBlockRefusal, numbersOf, bookRefusal, bookDecodes, bookTable}
 
 -- each row of an accepted book is within its limits
 abbrev pub RowsWithin : Type 0
@@ -19,6 +19,10 @@ RowsWithin = (book : List ℕ) → bookRefusal book ≡ 0 → (month : ℕ) → 
 abbrev pub RightChecks : Type 0
 RightChecks =
     (book : List ℕ) → bookRefusal book ≡ 0 → (n : ℕ) → n < bookBlocks → fieldAt (blockAt book n) checkAt ≡ checkOf (blockAt book n)
+
+-- reading a book decodes a block at most 17 times
+abbrev pub DecodesWithin : Type 0
+DecodesWithin = (book : List ℕ) → bookDecodes book ≤ bookBlocks
 
 -- block n of a book is read as these 115 numbers
 pub record BlockReads (book : List ℕ) (n : ℕ) (numbers : List ℕ) : Type 0 where

@@ -8,7 +8,7 @@ use row::places::ROW_NUMBERS;
 ghost use mathlib.Core.Path.{_≡_};
 ghost use Prim.Native.Nat.{_<_};
 ghost use lib.ListN.{length};
-ghost use Rattle.book.specs.Book.{bookBlocks, bookBytes, tableNumbers, bookForm, bookRefusal, bookTable};
+ghost use Rattle.book.specs.Book.{bookBlocks, bookBytes, tableNumbers, bookForm, bookRefusal, bookDecodes, bookTable};
 ghost use Rattle.book.specs.Internal.{BlockDecoded, BookDecoded};
 
 // A book row outside its limits.
@@ -24,6 +24,12 @@ const BLOCK_NUMBERS: usize = BLOCK_ROWS * ROW_NUMBERS;
 
 pub const TABLE_NUMBERS: usize = BOOK_BLOCKS * BLOCK_NUMBERS;
 
+// What reading a book answers: a refusal or 0, and how many of its blocks were decoded.
+pub struct BookRead {
+    pub refusal: u32,
+    pub decodes: u32,
+}
+
 // Block n of a book is of edition 1, with bytes used up to the end of its last row.
 fn book_form(n: u32) -> Form
     ensures { λ r. ⌜ r ≡ bookForm n ⌝ }
@@ -35,55 +41,78 @@ fn book_form(n: u32) -> Form
     }
 }
 
-// Decodes block n of a book into its part of the table: the only function that decodes a block. Answers why it is refused, or 0.
-fn decode_block(book: &[u8], n: usize, table: &mut [u32]) -> u32
-    requires { ⌜ (length (now book) ≡ bookBytes) × ((length (now table) ≡ tableNumbers) × (n < bookBlocks)) ⌝ }
-    ensures { λ r. ⌜ BlockDecoded (now (book .entry)) n (now (table .entry)) (now (table .exit)) r ⌝ }
+// Decodes block n of a book into its part of the table: the only function that decodes a block, and the only one that raises the number.
+fn decode_block(book: &[u8], n: usize, table: &mut [u32], decodes: u32) -> BookRead
+    requires { ⌜ (length (now book) ≡ bookBytes) × ((length (now table) ≡ tableNumbers) × ((n < bookBlocks) × (decodes < bookBlocks))) ⌝ }
+    ensures { λ r. ⌜ BlockDecoded (now (book .entry)) n (now (table .entry)) (now (table .exit)) decodes r ⌝ }
 {
+    let counted = decodes + 1;
     let start = BLOCK_BYTES * n;
     let end = start + BLOCK_BYTES;
     let block = &book[start..end];
     let due = book_form(n as u32);
     let refusal = block::read::block_refusal(block, due);
     if refusal != 0 {
-        return refusal;
+        return BookRead {
+            refusal,
+            decodes: counted,
+        };
     }
     let first = BLOCK_NUMBERS * n;
     let last = first + BLOCK_NUMBERS;
     block::read::read_fields(block, FIELDS_AT, &mut table[first..last]);
     let fit = row::limits::rows_fit(table, BLOCK_ROWS * n);
-    if fit { 0 } else { ROW_OUTSIDE_LIMITS }
+    if fit {
+        BookRead {
+            refusal: 0,
+            decodes: counted,
+        }
+    } else {
+        BookRead {
+            refusal: ROW_OUTSIDE_LIMITS,
+            decodes: counted,
+        }
+    }
 }
 
-// Decodes the blocks in turn, up to the first that is refused.
-fn decode_blocks(book: &[u8], table: &mut [u32]) -> u32
+// Decodes the blocks in turn, up to the first that is refused, and carries the number along.
+fn decode_blocks(book: &[u8], table: &mut [u32]) -> BookRead
     requires { ⌜ (length (now book) ≡ bookBytes) × (length (now table) ≡ tableNumbers) ⌝ }
     ensures { λ r. ⌜ BookDecoded (now (book .entry)) (now (table .exit)) r ⌝ }
 {
     let mut n: usize = 0;
+    let mut decodes: u32 = 0;
     while n < BOOK_BLOCKS {
-        let refusal = decode_block(book, n, table);
-        if refusal != 0 {
-            return refusal;
+        let read = decode_block(book, n, table, decodes);
+        if read.refusal != 0 {
+            return read;
         }
+        decodes = read.decodes;
         n = n + 1;
     }
-    0
+    BookRead {
+        refusal: 0,
+        decodes,
+    }
 }
 
 // Reads a book into a table of its 85 rows of 23 numbers, and answers 0; or answers why it is refused, with a blank table.
-pub fn read_book(book: &[u8], table: &mut [u32; TABLE_NUMBERS]) -> u32
-    ensures { λ r. ⌜ r ≡ bookRefusal (now (book .entry)) ⌝ }
+pub fn read_book(book: &[u8], table: &mut [u32; TABLE_NUMBERS]) -> BookRead
+    ensures { λ r. ⌜ r .refusal ≡ bookRefusal (now (book .entry)) ⌝ }
+    ensures { λ r. ⌜ r .decodes ≡ bookDecodes (now (book .entry)) ⌝ }
     ensures { λ _. ⌜ now (table .exit) ≡ bookTable (now (book .entry)) ⌝ }
 {
     if book.len() != BOOK_BYTES {
         block::read::blank(table);
-        return WRONG_LENGTH;
+        return BookRead {
+            refusal: WRONG_LENGTH,
+            decodes: 0,
+        };
     }
-    let refusal = decode_blocks(book, table);
-    if refusal != 0 {
+    let read = decode_blocks(book, table);
+    if read.refusal != 0 {
         block::read::blank(table);
-        return refusal;
+        return read;
     }
-    0
+    read
 }

@@ -1,3 +1,4 @@
+pub mod DecodesWithin
 pub mod FilesPassed
 pub mod FirstBytes
 pub mod ReadAnswers

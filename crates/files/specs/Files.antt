@@ -5,14 +5,14 @@ use mathlib.Core.Bool.{Bool, true, false, _&&_}
 use mathlib.Core.List.{List, [], _∷_}
 use lib.ListN.{length}
 use lib.Dec.{eqb}
-use Rattle.numbers.specs.Choice.{unless, firstOf}
+use Rattle.numbers.specs.Choice.{unless, firstOf, answerBy}
 use Rattle.site.specs.declared.Scenario.{Scenario}
 use Rattle.site.specs.Scenario.{withDiets}
 use Rattle.site.specs.Site.{siteRefusal, readSite}
 use Rattle.foods.specs.Foods.{foodsRefusal, foodsFigures}
 use Rattle.diet.specs.Diet.{dietsOf}
 use Rattle.block.specs.Block.{blockBytes}
-use Rattle.book.specs.Book.{bookBytes, bookRefusal, bookTable}
+use Rattle.book.specs.Book.{bookBytes, bookRefusal, bookDecodes, bookTable}
 
 -- a foods block that a call is handed, as bytes of any length, or none
 pub data FoodsFile : Type 0 where
@@ -61,6 +61,10 @@ filesRefusals f = beforeBookRefusal f ∷ bookRefusal (f .book) ∷ []
 
 unfoldable pub filesRefusal : Files → ℕ
 filesRefusal f = firstOf (filesRefusals f)
+
+-- how many blocks of the book are decoded to read the files: none if they are refused before the book
+unfoldable pub filesDecodes : Files → ℕ
+filesDecodes f = answerBy (beforeBookRefusal f) (bookDecodes (f .book)) (λ r. 0)
 
 -- the diets of a foods block, if there is one, else the site file's own
 abbrev pub dietsWith : FoodsFile → List ℕ → List ℕ

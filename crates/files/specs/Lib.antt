@@ -1,2 +1,3 @@
 pub mod Files
+pub mod Laws
 pub mod Internal

@@ -1,6 +1,7 @@
 // A call's files: the site file, a foods block or none, and the rate book, read or refused with the first of their numbers.
 use block::WRONG_LENGTH;
 use book::BOOK_BYTES;
+use book::BookRead;
 use book::TABLE_NUMBERS;
 use foods::places::FIGURES;
 use site::SITE_BYTES;
@@ -8,14 +9,15 @@ use site::Scenario;
 use site::places::AGES;
 ghost use mathlib.Core.Path.{_≡_};
 ghost use mathlib.Core.List.{[], _∷_};
-ghost use Rattle.numbers.specs.Choice.{firstOf};
-ghost use Rattle.book.specs.Book.{bookRefusal, bookTable};
+ghost use Rattle.numbers.specs.Choice.{firstOf, answerBy};
+ghost use Rattle.book.specs.Book.{bookRefusal, bookDecodes, bookTable};
 ghost use Rattle.files.specs.Files.{foodsIf, filesOf, filesIf, lengthRefusal};
 ghost use Rattle.files.specs.Internal.{DietsTaken, FilesAreRead};
 
-// What reading a call's files answers: a refusal, or 0 and the scenario.
+// What reading a call's files answers: a refusal, or 0 and the scenario; and how many blocks of the book were decoded.
 pub struct FilesRead {
     pub refusal: u32,
+    pub decodes: u32,
     pub scenario: Scenario,
 }
 
@@ -76,13 +78,17 @@ fn before_book(lengths: u32, of_site: u32, of_foods: u32) -> u32
     of_foods
 }
 
-// Reads the book into the table if nothing before it is refused; answers the first refusal, or 0.
-fn then_book(before: u32, book: &[u8], table: &mut [u32; TABLE_NUMBERS]) -> u32
-    ensures { λ r. ⌜ r ≡ firstOf (before ∷ bookRefusal (now (book .entry)) ∷ []) ⌝ }
-    ensures { λ r. ⌜ (r ≡ 0 → now (table .exit) ≡ bookTable (now (book .entry))) ⌝ }
+// Reads the book into the table if nothing before it is refused; answers the first refusal, or 0, and how many blocks were decoded.
+fn then_book(before: u32, book: &[u8], table: &mut [u32; TABLE_NUMBERS]) -> BookRead
+    ensures { λ r. ⌜ r .refusal ≡ firstOf (before ∷ bookRefusal (now (book .entry)) ∷ []) ⌝ }
+    ensures { λ r. ⌜ r .decodes ≡ answerBy before (bookDecodes (now (book .entry))) (λ n. 0) ⌝ }
+    ensures { λ r. ⌜ (r .refusal ≡ 0 → now (table .exit) ≡ bookTable (now (book .entry))) ⌝ }
 {
     if before != 0 {
-        return before;
+        return BookRead {
+            refusal: before,
+            decodes: 0,
+        };
     }
     let of_book = book::read_book(book, table);
     of_book
@@ -109,6 +115,10 @@ pub fn read_files(
     scenario.diets = diets;
     let lengths = length_refusal(site, book);
     let before = before_book(lengths, of_site, of_foods);
-    let refusal = then_book(before, book, table);
-    FilesRead { refusal, scenario }
+    let of_book = then_book(before, book, table);
+    FilesRead {
+        refusal: of_book.refusal,
+        decodes: of_book.decodes,
+        scenario,
+    }
 }

@@ -80,7 +80,7 @@ pub extern "C" fn jurengate_read_book(book: &[u8], table: &mut [u32; TABLE_NUMBE
     ensures { λ _. ⌜ now (table .exit) ≡ bookTable (now (book .entry)) ⌝ }
 {
     let of_book = book::read_book(book, table);
-    of_book
+    of_book.refusal
 }
 
 // Reads a foods block: its refusal, and its 128 figures, 105 grams, 15 leads, 4 shares, 4 leads, zeros if it is refused.

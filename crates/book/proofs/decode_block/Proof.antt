@@ -14,6 +14,9 @@ use borrow.Author.Needs.{needs}
 use Rattle.book.proofs.decode_block.Statement.{statement}
 use Rattle.book.proofs.decode_block.Tie as tie
 
+add-counted : tie.Need-add-counted
+add-counted c = search needs
+
 mul-start : tie.Need-mul-start
 mul-start c = search needs
 
@@ -47,7 +50,7 @@ header c = c .block-refusal .ensures ∙ ap (blockRefusal _) (c .before .book-fo
 returns : tie.Need-returns
 returns c =
     let start = c .before .before .before .before .before .before in
-    refused-by-header (now (start .args .book)) (start .args .n) (now (start .args .table)) (start .pre .1 .0)
+    refused-by-header (now (start .args .book)) (start .args .n) (now (start .args .table)) (start .pre .1 .0) (start .args .decodes)
     (c .before .block-refusal .result) (header (c .before)) (c .if1 .taken)
 
 mul-first : tie.Need-mul-first
@@ -81,12 +84,13 @@ rows-fit-requires c κs = search needs
 rows-tested : {fit : Bool} (c : tie.After-rows-fit) → c .rows-fit .result ≡ fit →
     let read = c .before .before .before .before in
     let a = read .before .before .before .before .before .before .before .before .args in
-    BlockDecoded (now (a .book)) (a .n) (now (a .table)) (stored (a .n) (read .read-fields .last .1 .1 .0) (now (a .table))) (unless fit 8)
+    BlockDecoded (now (a .book)) (a .n) (now (a .table)) (stored (a .n) (read .read-fields .last .1 .1 .0) (now (a .table))) (a .decodes)
+    (record { refusal = unless fit 8; decodes = a .decodes + 1 })
 rows-tested c answered =
     let read = c .before .before .before .before in
     let tested = read .before .before .before in
     let start = tested .before .before .before .before .before in
-    checked-rows _ (start .args .n) _ (start .pre .1 .0) (start .pre .1 .1) (sym (header tested) ∙ read .before .before .if1 .left) _
+    checked-rows _ (start .args .n) _ (start .pre .1 .0) (start .args .decodes) (start .pre .1 .1 .0) (sym (header tested) ∙ read .before .before .if1 .left) _
     (read .read-fields .ensures) (sym (c .rows-fit .ensures) ∙ answered)
 
 same-length : tie.Need-same-length
@@ -107,6 +111,7 @@ pub decode-block-spec : {M : Type 1} → statement M
 decode-block-spec =
     tie.close
     (tie.spec
+    add-counted
     mul-start
     add-end
     sub-block

@@ -1,35 +1,38 @@
--- `book::decode_blocks` meets its contract: at block n the table has the numbers of the blocks before.
+-- `book::decode_blocks` meets its contract: at block n the table has the numbers of the blocks before, and each of these is counted.
 -- Assumes nothing.
 use Prim.Native.Nat.{_-_}
 use mathlib.Core.Path.{sym, _∙_}
 use borrow.Author.Needs.{needs}
 use Rattle.book.specs.Book.{bookBlocks}
-use Rattle.book.proofs.Decode.{AtBlock, at-first, at-refused, at-next, at-end}
+use Rattle.book.proofs.Decode.{AtBlock, at-first, decodes-below, at-refused, at-next, at-end}
 use Rattle.book.proofs.decode_blocks.Statement.{statement}
 use Rattle.book.proofs.decode_blocks.Tie as tie
 
 abbrev Inv-loop : tie.InvT-loop
-Inv-loop book table₀ n₀ table n = AtBlock book table n
+Inv-loop book table₀ n₀ decodes₀ table n decodes = AtBlock book table n decodes
 
 abbrev μ-loop : tie.MeasureT-loop
-μ-loop book table₀ n₀ table n = bookBlocks - n
+μ-loop book table₀ n₀ decodes₀ table n decodes = bookBlocks - n
 
 loop-holds : tie.Need-loop-holds Inv-loop μ-loop
 loop-holds c = at-first _ _ (c .before .before .pre .1)
 
 decode-block-requires : tie.Need-decode-block-requires Inv-loop μ-loop
 decode-block-requires c κs =
-    (c .before .before .before .before .before .pre .0, (c .before .before .loop .inv .long, c .before .loop-test .taken))
+    let l = c .before .before in
+    let below = c .before .loop-test .taken in
+    (l .before .before .before .pre .0, (l .loop .inv .long, (below, decodes-below _ _ _ _ (l .loop .inv) below)))
 
 same-length : tie.Need-same-length Inv-loop μ-loop
 same-length c =
-    c .before .before .before .decode-block .ensures .long ∙ sym (c .before .before .before .before .before .before .before .before .before .pre .1)
+    let d = c .before .before .before .before in
+    d .decode-block .ensures .long ∙ sym (d .before .before .before .before .before .before .pre .1)
 
 returns : tie.Need-returns Inv-loop μ-loop
 returns c =
-    let d = c .before .before .before in
+    let d = c .before .before .before .before in
     let l = d .before .before .before in
-    at-refused _ _ (l .loop .n) (l .loop .inv) (d .before .before .loop-test .taken) _ _ (d .decode-block .ensures) (c .if1 .taken)
+    at-refused _ _ (l .loop .n) (l .loop .decodes) (l .loop .inv) (d .before .before .loop-test .taken) _ _ (d .decode-block .ensures) (c .if1 .taken)
 
 add-n : tie.Need-add-n Inv-loop μ-loop
 add-n c = search needs
@@ -39,15 +42,15 @@ loop-less c = search needs
 
 loop-again : tie.Need-loop-again Inv-loop μ-loop
 loop-again c =
-    let d = c .before .before .before in
+    let d = c .before .before .before .before in
     let l = d .before .before .before in
-    at-next _ _ (l .loop .n) (l .loop .inv) (d .before .before .loop-test .taken) _ _ (d .decode-block .ensures) (c .if1 .left)
+    at-next _ _ (l .loop .n) (l .loop .decodes) (l .loop .inv) (d .before .before .loop-test .taken) _ _ (d .decode-block .ensures) (c .if1 .left)
 
 same-length-2 : tie.Need-same-length-2 Inv-loop μ-loop
 same-length-2 c = c .before .loop .inv .long ∙ sym (c .before .before .before .before .pre .1)
 
 returns-2 : tie.Need-returns-2 Inv-loop μ-loop
-returns-2 c = at-end _ _ (c .before .loop .n) (c .before .loop .inv) (c .loop-test .left)
+returns-2 c = at-end _ _ (c .before .loop .n) (c .before .loop .decodes) (c .before .loop .inv) (c .loop-test .left)
 
 pub decode-blocks-spec : {M : Type 1} → statement M
 decode-blocks-spec =

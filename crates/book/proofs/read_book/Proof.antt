@@ -1,4 +1,4 @@
--- `book::read_book` meets its contract: each way out is one case of `bookRefusal` and `bookTable`.
+-- `book::read_book` meets its contract: each way out is one case of `bookRefusal`, `bookDecodes` and `bookTable`.
 -- Assumes nothing.
 use mathlib.Core.Path.{_≡_}
 use lib.ListN.{length}
@@ -28,13 +28,13 @@ blank-requires-2 c κs = search needs
 
 returns-2 : tie.Need-returns-2
 returns-2 c =
-    let d = c .before .before .before in
+    let d = c .before .before .before .before in
     refused-block (now (d .before .before .before .before .args .book)) (d .before .before .if1 .left) (d .decode-blocks .ensures) (c .before .before .if2 .taken)
     (c .blank2 .ensures)
 
 returns-3 : tie.Need-returns-3
 returns-3 c =
-    let d = c .before in
+    let d = c .before .before in
     accepted-book (now (d .before .before .before .before .args .book)) (d .before .before .if1 .left) (d .decode-blocks .ensures) (c .if2 .left)
 
 pub read-book-spec : {M : Type 1} → statement M

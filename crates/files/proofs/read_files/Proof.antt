@@ -1,4 +1,4 @@
--- `files::read_files` meets its contract: what is read on the way gives the refusal, the scenario and the table.
+-- `files::read_files` meets its contract: what is read on the way gives the refusal, the number of blocks decoded, the scenario and the table.
 -- Assumes nothing.
 use borrow.Author.Needs.{needs}
 use denote.Ref.{now}
@@ -30,7 +30,7 @@ returns c =
     let read = diets .before .before .before in
     let a = read .before .before .before .before .args in
     files-read (filesIf (a .has-foods) (now (a .site)) (now (a .foods)) (now (a .book))) (read .read-site .ensures) (diets .read-diets .ensures)
-    (lengths .length-refusal .ensures) (first .before-book .ensures) (c .then-book .ensures .0) (c .then-book .ensures .1)
+    (lengths .length-refusal .ensures) (first .before-book .ensures) (c .then-book .ensures .0) (c .then-book .ensures .1 .0) (c .then-book .ensures .1 .1)
 
 pub read-files-spec : {M : Type 1} → statement M
 read-files-spec =

@@ -8,7 +8,7 @@ read-book-requires : tie.Need-read-book-requires
 read-book-requires c κs = search needs
 
 returns : tie.Need-returns
-returns c = c .read-book .ensures
+returns c = (c .read-book .ensures .0, c .read-book .ensures .1 .1)
 
 pub jurengate-read-book-spec : {M : Type 1} → statement M
 jurengate-read-book-spec = tie.close (tie.spec read-book-requires returns)
