@@ -19,7 +19,8 @@ use Rattle.card.specs.declared.Value.the-variants.{Missing, Figure}
 use Rattle.card.specs.declared.Card.{Card}
 use Rattle.card.specs.Values.{soilIn, dustIn}
 use Rattle.cardsite.specs.Fields.{given, mediaFields, rowFields, rowScenario}
-use Rattle.cardsite.specs.Laws.{orOwn, RowExposures, RowMother}
+use Rattle.cardsite.specs.RowExposure.{orOwn}
+use Rattle.cardsite.specs.Laws.{RowExposures, RowMother}
 
 -- a value put in where it is given, at a place that it is for, or at another
 abbrev chosen : ℕ → ℕ → Value → ℕ → ℕ

@@ -2,5 +2,6 @@
 pub mod Over
 pub mod Start
 pub mod Fields
+pub mod RowExposure
 pub mod Laws
 pub mod Bench

@@ -19,6 +19,8 @@ ghost use Rattle.cardsite.specs.Over.{over, overLimit};
 ghost use Rattle.cardsite.specs.Start.{startOf};
 ghost use Rattle.cardsite.specs.Fields.{given, mediaFields, rowFields, rowScenario};
 
+pub mod exposures; // exposures.rt: what a row makes of an exposure
+
 // Where the absorbed percentages of dust and soil stand.
 const ABSORBED_DUST: usize = places::ABSORBED + 2;
 
