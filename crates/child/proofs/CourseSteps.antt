@@ -7,12 +7,16 @@ use native.Mathlib.Omega.{arith}
 use native.Mathlib.Numerals.{add-one}
 use Rattle.numbers.proofs.Refusals.{answer-refused}
 use Rattle.site.specs.declared.Scenario.{Scenario}
+use Rattle.exposure.specs.declared.Exposure.{Exposure}
+use Rattle.row.specs.declared.Row.{Row}
 use Rattle.child.specs.declared.BirthAnswer.{BirthAnswer}
 use Rattle.child.specs.declared.MonthAnswer.{MonthAnswer}
 use Rattle.child.specs.declared.Course.{Course}
 use Rattle.child.specs.Birth.{newborn, newbornRefusal, birthAnswer}
 use Rattle.child.specs.Month.{childMonth}
 use Rattle.child.specs.Course.{fromBirth, fromMonth, nextMonth, courseAt}
+use Rattle.child.specs.Internal.{MonthGiven, givenMonth}
+use Rattle.child.proofs.MonthAnswers.{given-child}
 
 module _ (s : ℕ) (scenario : Scenario) (table : List ℕ) where
   pub course-born : {b : BirthAnswer} → b ≡ birthAnswer (newbornRefusal scenario table) (newborn scenario table) → fromBirth b ≡ courseAt s scenario table 0
@@ -27,6 +31,11 @@ module _ (s : ℕ) (scenario : Scenario) (table : List ℕ) where
   pub course-month : (c : Course) → c .refusal ≡ 0 → {m : MonthAnswer} → m ≡ childMonth s (c .state) scenario table → fromMonth m ≡ nextMonth s scenario table c
   unfolding nextMonth
   course-month c z e = rw z (ap fromMonth e)
+
+  -- by its exposure, its row and the body weight that the saturation is given for
+  pub course-given : (c : Course) → c .refusal ≡ 0 → (e : Exposure) (row : Row) (weight24 : ℕ) → {m : MonthAnswer} → m ≡ givenMonth s (c .state) e row weight24
+      → (c .refusal ≡ 0 → MonthGiven scenario table (c .state) e row weight24) → fromMonth m ≡ nextMonth s scenario table c
+  course-given c z e row weight24 em given = course-month c z (em ∙ given-child s (c .state) e row weight24 (given z))
 
   -- the loop: the course is the one up to the months done
   pub record InCourse (until : ℕ) (here : Course) (done : ℕ) : Type 0 where

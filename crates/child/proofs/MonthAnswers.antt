@@ -1,10 +1,10 @@
 -- What a month of a child answers, by where its steps end, and what a birth answers.
 -- Assumes nothing.
-use mathlib.Core.Path.{_≡_, refl, sym, _∙_}
+use mathlib.Core.Path.{_≡_, refl, sym, ap, _∙_}
 use mathlib.Core.List.{List}
-use Prim.Native.Nat.{ℕ, _*_, _≤_}
+use Prim.Native.Nat.{ℕ, zero, suc, _*_, _≤_}
 use native.Mathlib.Omega.{arith}
-use Rattle.numbers.specs.Choice.{answerBy}
+use Rattle.numbers.specs.Choice.{orElse, answerBy}
 use Rattle.numbers.proofs.Refusals.{orElse-first, orElse-last, answer-refused, answer-number}
 use Rattle.site.specs.declared.Scenario.{Scenario}
 use Rattle.row.specs.declared.Row.{Row}
@@ -22,9 +22,11 @@ use Rattle.child.specs.Birth.{acceptedBirth, refusedBirth, birthAnswer}
 use Rattle.child.specs.Month.{monthAfter, exposureIn, saturationMonth, monthUptake, monthShares, refusedMonth, acceptedMonth, childRefusal, monthLast, childMonth}
 use Rattle.exposure.specs.declared.Exposure.{Exposure}
 use Rattle.uptake.specs.Uptake.{dayUptake}
-use Rattle.uptake.specs.Laws.{Weights, dayLimit}
+use Rattle.uptake.specs.Age.{ageOf}
+use Rattle.uptake.specs.Laws.{dayLimit}
+use Rattle.uptake.proofs.UptakeBounds.{age-law}
 use Rattle.steps.specs.Internal.{Steppable, ReachedBy}
-use Rattle.child.specs.Internal.{Decoded, steppedMonth, monthFrom}
+use Rattle.child.specs.Internal.{Decoded, steppedMonth, MonthLimits, MonthGiven, exposedMonth, givenMonth, monthFrom}
 use Rattle.state.proofs.SoundState.{passed-sound, passed-before}
 
 -- what a month and a birth answer, by the number
@@ -58,23 +60,19 @@ month-steppable a passed limits daily =
       room = omega (arith, sound .all, passed-before a passed);
     }
 
--- the body weights that the code reads are within their limits
-pub weights-within : {scenario : Scenario} {table : List ℕ} (d : Decoded scenario table) {m : ℕ} → m ≤ lastMonth → {row row24 : Row} → row ≡ rowOf table m → row24 ≡ rowOf table saturationMonth
-    → Weights (row .«body_weight») (row24 .«body_weight»)
-weights-within d {m} h er e24 =
-    rw (er, e24)
+-- what accepted files give a month is within its limits
+pub month-limits : {scenario : Scenario} {table : List ℕ} → Decoded scenario table → (a : State) → stateRefusal a ≡ 0 → {e : Exposure} {row : Row} {weight24 : ℕ}
+    → MonthGiven scenario table a e row weight24 → MonthLimits e row weight24
+month-limits {scenario} {table} d a passed given =
+    let month = month-after-most a passed in
+    let limits : RowLimits (rowOf table (monthAfter a)) = d .row (monthAfter a) month in
+    let limits24 : RowLimits (rowOf table saturationMonth) = d .row saturationMonth (omega arith) in
+    rw (given .exposure-is, given .row-is, given .weight-is)
     (record {
-      least = d .row m h .body-least;
-      most = d .row m h .body-most;
-      least24 = d .row saturationMonth (omega arith) .body-least;
-      most24 = d .row saturationMonth (omega arith) .body-most;
+      exposed = d .exposure (ageOf (monthAfter a)) (age-law (monthAfter a) month);
+      booked = limits;
+      weights = record { least = limits .body-least; most = limits .body-most; least24 = limits24 .body-least; most24 = limits24 .body-most };
     })
-
--- T by what the code reads
-taken-uptake : (scenario : Scenario) (table : List ℕ) (m : ℕ) {e : Exposure} → e ≡ exposureIn scenario m → {row row24 : Row} → row ≡ rowOf table m
-    → row24 ≡ rowOf table saturationMonth → dayUptake e (row .«body_weight») (row24 .«body_weight») ≡ monthUptake scenario table m
-unfolding monthUptake
-taken-uptake scenario table m ee er e24 = rw (ee, er, e24)
 
 -- by where its steps end
 module _ (s : ℕ) (rates : State → Rates) (a : State) (row : Row) (t : ℕ) (x : Reached) (r : ReachedBy rates a (daysShares s t daysAMonth) (daysAMonth * t) x) where
@@ -96,13 +94,42 @@ module _ (s : ℕ) (a : State) (scenario : Scenario) (table : List ℕ) where
   unfolding monthFrom childMonth childRefusal
   child-passed z = rw z
 
-  -- refusal 9, and the steps
-  pub month-intake-refused : (r : ℕ) → r ≡ intakeRefusal (exposureIn scenario (monthAfter a)) → (r ≡ 0 → ⊥) → refusedMonth r a ≡ monthFrom s a scenario table
-  unfolding monthFrom
-  month-intake-refused r e h = rw (← e, orElse-first r _ h) (refused-answer r a _ h)
+-- what is answered by the first of two refusals, and then by the second
+answer-either : {A : Type 0} (x : A) (refused : ℕ → A) (r s : ℕ) → answerBy r (answerBy s x refused) refused ≡ answerBy (orElse r s) x refused
+answer-either x refused zero s = refl
+answer-either x refused (suc r) s = refl
 
-  pub month-stepped : intakeRefusal (exposureIn scenario (monthAfter a)) ≡ 0 → {e : Exposure} → e ≡ exposureIn scenario (monthAfter a)
-      → {row row24 : Row} → row ≡ rowOf table (monthAfter a) → row24 ≡ rowOf table saturationMonth → {t : ℕ} → t ≡ dayUptake e (row .«body_weight») (row24 .«body_weight»)
-      → steppedMonth s (λ b. row .rates) a row t ≡ monthFrom s a scenario table
-  unfolding steppedMonth monthFrom monthLast monthShares
-  month-stepped z ee er e24 et = rw (z, et ∙ taken-uptake scenario table (monthAfter a) ee er e24, er, orElse-last _)
+-- by its exposure, its row and the body weight that the saturation is given for
+module _ (s : ℕ) (a : State) (e : Exposure) (row : Row) (weight24 : ℕ) where
+  -- refusals 20 and 21, and what follows
+  pub given-refused : (r : ℕ) → r ≡ stateRefusal a → (r ≡ 0 → ⊥) → refusedMonth r a ≡ givenMonth s a e row weight24
+  unfolding givenMonth
+  given-refused r er h = rw (← er) (refused-answer r a _ h)
+
+  pub given-passed : stateRefusal a ≡ 0 → exposedMonth s a e row weight24 ≡ givenMonth s a e row weight24
+  unfolding givenMonth
+  given-passed z = rw z
+
+  -- refusal 9, and the steps
+  pub exposed-refused : (r : ℕ) → r ≡ intakeRefusal e → (r ≡ 0 → ⊥) → refusedMonth r a ≡ exposedMonth s a e row weight24
+  unfolding exposedMonth
+  exposed-refused r er h = rw (← er) (refused-answer r a _ h)
+
+  pub exposed-stepped : intakeRefusal e ≡ 0 → {t : ℕ} → t ≡ dayUptake e (row .«body_weight») weight24
+      → {m : MonthAnswer} → m ≡ steppedMonth s (λ b. row .rates) a row t → m ≡ exposedMonth s a e row weight24
+  unfolding exposedMonth
+  exposed-stepped z et em = rw (z, ← et) em
+
+  -- the month of a scenario and a table that give these three
+  module _ {scenario : Scenario} {table : List ℕ} (given : MonthGiven scenario table a e row weight24) where
+    pub exposed-from : exposedMonth s a e row weight24 ≡ monthFrom s a scenario table
+    unfolding exposedMonth steppedMonth monthFrom monthLast monthShares monthUptake
+    exposed-from =
+        rw (given .exposure-is, given .row-is, given .weight-is, orElse-last _)
+        (answer-either _ (λ n. refusedMonth n a) (intakeRefusal (exposureIn scenario (monthAfter a))) _)
+
+    pub given-child : givenMonth s a e row weight24 ≡ childMonth s a scenario table
+    unfolding givenMonth childMonth childRefusal monthFrom
+    given-child =
+        ap (λ (m : MonthAnswer). answerBy (stateRefusal a) m (λ n. refusedMonth n a)) exposed-from
+        ∙ answer-either _ (λ n. refusedMonth n a) (stateRefusal a) _

@@ -1,4 +1,5 @@
 // A child of accepted files: its birth, a month of it, and the months of a run.
+use exposure::Exposure;
 use kinetics::State;
 use row::Row;
 use site::Scenario;
@@ -16,7 +17,7 @@ ghost use Rattle.uptake.specs.Laws.{dayLimit};
 ghost use Rattle.steps.specs.Steps.{stepsADay};
 ghost use Rattle.child.specs.Birth.{newborn, newbornRefusal, birthAnswer};
 ghost use Rattle.child.specs.Month.{refusedMonth, acceptedMonth, childMonth};
-ghost use Rattle.child.specs.Internal.{Decoded, steppedMonth, monthFrom};
+ghost use Rattle.child.specs.Internal.{Decoded, steppedMonth, MonthLimits, exposedMonth, givenMonth, monthFrom};
 
 pub mod courses; // courses.rt: a child's course up to a month
 pub mod months; // months.rt: the months of a run
@@ -24,7 +25,7 @@ pub mod months; // months.rt: the months of a run
 const STEPS_A_DAY: u64 = 6;
 
 // The row of the month whose body weight the saturation is given for.
-const SATURATION_MONTH: usize = 24;
+pub const SATURATION_MONTH: usize = 24;
 
 // What birth answers: 0 and the newborn child, or a refusal and the all-zero state.
 pub struct BirthAnswer {
@@ -123,6 +124,32 @@ fn stepped_month(state: State, row: Row, t: u64) -> MonthAnswer
     accepted_month(state, last, row)
 }
 
+// A month by its exposure, its row and the body weight that the saturation is given for, of a child whose state can have one.
+fn exposed_month(state: State, exposure: Exposure, row: Row, weight24: u64) -> MonthAnswer
+    requires { ⌜ (stateRefusal state ≡ 0) × (MonthLimits exposure row weight24) ⌝ }
+    ensures { λ r. ⌜ r ≡ exposedMonth stepsADay state exposure row weight24 ⌝ }
+{
+    let intakes = intake::intakes_of(exposure);
+    let refusal = intake::intake_refusal(intakes);
+    if refusal != 0 {
+        return refused_month(refusal, state);
+    }
+    let t = uptake::day::day_uptake(exposure, intakes, row.body_weight, weight24);
+    stepped_month(state, row, t)
+}
+
+// A month by its exposure, its row and that body weight: refusals 20, 21, 9, 22.
+fn given_month(state: State, exposure: Exposure, row: Row, weight24: u64) -> MonthAnswer
+    requires { ⌜ MonthLimits exposure row weight24 ⌝ }
+    ensures { λ r. ⌜ r ≡ givenMonth stepsADay state exposure row weight24 ⌝ }
+{
+    let refusal = state::state_refusal(state);
+    if refusal != 0 {
+        return refused_month(refusal, state);
+    }
+    exposed_month(state, exposure, row, weight24)
+}
+
 // A month of a child whose state can have one.
 fn month_after(state: State, scenario: Scenario, table: &[u32]) -> MonthAnswer
     requires { ⌜ (length (now table) ≡ tableNumbers) × (Decoded scenario (now table)) × (stateRefusal state ≡ 0) ⌝ }
@@ -131,15 +158,9 @@ fn month_after(state: State, scenario: Scenario, table: &[u32]) -> MonthAnswer
     let month = state.month + 1;
     let age = uptake::age::age_of(month);
     let exposure = exposure::exposure_at(scenario, age as usize);
-    let intakes = intake::intakes_of(exposure);
-    let refusal = intake::intake_refusal(intakes);
-    if refusal != 0 {
-        return refused_month(refusal, state);
-    }
     let row = row::table::row_at(table, month as usize);
     let row24 = row::table::row_at(table, SATURATION_MONTH);
-    let t = uptake::day::day_uptake(exposure, intakes, row.body_weight, row24.body_weight);
-    stepped_month(state, row, t)
+    exposed_month(state, exposure, row, row24.body_weight)
 }
 
 // A month from accepted files: refusals 20, 21, 9, 22.
