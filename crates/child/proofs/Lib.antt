@@ -1,5 +1,6 @@
 pub mod BornAnswers
 pub mod CourseInRun
+pub mod CourseMonths
 pub mod CourseSteps
 pub mod MonthAnswers
 pub mod RunLoop
