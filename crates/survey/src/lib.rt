@@ -26,7 +26,7 @@ pub enum RowAnswer {
 }
 
 // What a child's course up to AGE answers.
-fn course_answer(course: Course) -> RowAnswer
+pub fn course_answer(course: Course) -> RowAnswer
     ensures { λ r. ⌜ r ≡ courseAnswer course ⌝ }
 {
     let refusal = course.refusal;
