@@ -1,19 +1,23 @@
 -- The months of a course: an accepted course is that of a child as old as its month, a refused one stays, and birth depends on the mother alone.
 -- Assumes nothing.
-use Prim.Native.Nat.{ℕ, zero, suc, _≤_}
+use Prim.Native.Nat.{ℕ, zero, suc, _+_, _≤_}
 use mathlib.Core.Path.{_≡_, refl, sym, ap, _∙_}
 use mathlib.Core.List.{List}
 use native.Mathlib.Omega.{arith}
 use native.Mathlib.Decide.{ℕ-discrete}
 use Rattle.site.specs.declared.Scenario.{Scenario}
 use Rattle.site.specs.Scenario.{motherOf}
+use Rattle.exposure.specs.declared.Exposure.{Exposure}
+use Rattle.row.specs.declared.Row.{Row}
+use Rattle.row.specs.Row.{rowOf}
 use Rattle.kinetics.specs.declared.State.{State}
 use Rattle.blood.specs.Birth.{birthState}
 use Rattle.state.specs.State.{zeroState}
 use Rattle.child.specs.declared.Course.{Course}
 use Rattle.child.specs.Birth.{newborn, newbornRefusal, birthAnswer}
-use Rattle.child.specs.Month.{monthAfter, childRefusal, childMonth}
+use Rattle.child.specs.Month.{monthAfter, exposureIn, saturationMonth, childRefusal, childMonth}
 use Rattle.child.specs.Course.{fromMonth, nextMonth, courseAt}
+use Rattle.child.specs.Internal.{MonthGiven}
 use Rattle.child.proofs.MonthAnswers.{answer-refusal}
 use Rattle.child.proofs.CourseSteps.{course-kept, course-month}
 
@@ -51,6 +55,13 @@ module _ (s : ℕ) (scenario : Scenario) (table : List ℕ) where
   unfolding courseAt
   course-number zero e = born-number (newbornRefusal scenario table) scenario table
   course-number (suc m) e = next-number (courseAt s scenario table m) m (course-number m) e
+
+  -- so what the files give month m + 1 is given to the month after it
+  pub course-month-given : (m : ℕ) → courseAt s scenario table m .refusal ≡ 0 → {e : Exposure} {row : Row} {weight24 : ℕ} → e ≡ exposureIn scenario (m + 1) → row ≡ rowOf table (m + 1)
+      → weight24 ≡ rowOf table saturationMonth .«body_weight» → MonthGiven scenario table (courseAt s scenario table m .state) e row weight24
+  course-month-given m passed ee er e24 =
+      let number = course-number m passed in
+      record { exposure-is = rw number ee; row-is = rw number er; weight-is = e24 }
 
   -- a refused course is the same at every later month
   pub course-stays : (m n : ℕ) → m ≤ n → (courseAt s scenario table m .refusal ≡ 0 → ⊥) → courseAt s scenario table n ≡ courseAt s scenario table m

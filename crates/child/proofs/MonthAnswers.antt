@@ -60,19 +60,23 @@ month-steppable a passed limits daily =
       room = omega (arith, sound .all, passed-before a passed);
     }
 
--- what accepted files give a month is within its limits
-pub month-limits : {scenario : Scenario} {table : List ℕ} → Decoded scenario table → (a : State) → stateRefusal a ≡ 0 → {e : Exposure} {row : Row} {weight24 : ℕ}
-    → MonthGiven scenario table a e row weight24 → MonthLimits e row weight24
-month-limits {scenario} {table} d a passed given =
-    let month = month-after-most a passed in
-    let limits : RowLimits (rowOf table (monthAfter a)) = d .row (monthAfter a) month in
-    let limits24 : RowLimits (rowOf table saturationMonth) = d .row saturationMonth (omega arith) in
-    rw (given .exposure-is, given .row-is, given .weight-is)
-    (record {
-      exposed = d .exposure (ageOf (monthAfter a)) (age-law (monthAfter a) month);
+-- what accepted files give month m is within its limits
+pub limits-at : {scenario : Scenario} {table : List ℕ} → Decoded scenario table → (m : ℕ) → m ≤ lastMonth
+    → MonthLimits (exposureIn scenario m) (rowOf table m) (rowOf table saturationMonth .«body_weight»)
+limits-at d m h =
+    let limits = d .row m h in
+    let limits24 = d .row saturationMonth (omega arith) in
+    record {
+      exposed = d .exposure (ageOf m) (age-law m h);
       booked = limits;
       weights = record { least = limits .body-least; most = limits .body-most; least24 = limits24 .body-least; most24 = limits24 .body-most };
-    })
+    }
+
+-- and so is what they give the month after a state that a month can follow
+pub month-limits : {scenario : Scenario} {table : List ℕ} → Decoded scenario table → (a : State) → stateRefusal a ≡ 0 → {e : Exposure} {row : Row} {weight24 : ℕ}
+    → MonthGiven scenario table a e row weight24 → MonthLimits e row weight24
+month-limits d a passed given =
+    rw (given .exposure-is, given .row-is, given .weight-is) (limits-at d (monthAfter a) (month-after-most a passed))
 
 -- by where its steps end
 module _ (s : ℕ) (rates : State → Rates) (a : State) (row : Row) (t : ℕ) (x : Reached) (r : ReachedBy rates a (daysShares s t daysAMonth) (daysAMonth * t) x) where
