@@ -25,6 +25,7 @@ use Rattle.roll.specs.Words.{rowsAGroup, startAt}
 use Rattle.survey.specs.declared.RowAnswer.{RowAnswer}
 use Rattle.survey.specs.declared.RowAnswer.the-variants.{Skipped, Refused}
 use Rattle.survey.specs.Survey.{courseAnswer}
+use Rattle.survey.specs.Internal.{Ready}
 
 -- how many months a row is run
 abbrev pub untilOf : Start → ℕ
@@ -46,6 +47,7 @@ module _ (s : ℕ) (scenario : Scenario) (table : List ℕ) where
 
 -- what all rows share in the month that follows those done: the yard's exposure, the book's row, and the body weight that the saturation is given for
 pub record GroupMonth (scenario : Scenario) (table : List ℕ) (done : ℕ) (exposure : Exposure) (row : Row) (weight24 : ℕ) : Type 0 where
+  pub ready : Ready scenario table
   pub exposure-is : exposure ≡ exposureIn scenario (done + 1)
   pub row-is : row ≡ rowOf table (done + 1)
   pub weight-is : weight24 ≡ rowOf table saturationMonth .«body_weight»

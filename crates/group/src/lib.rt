@@ -11,7 +11,7 @@ use site::Scenario;
 use survey::RowAnswer;
 ghost use mathlib.Core.Path.{_≡_};
 ghost use mathlib.Core.List.{List, map};
-ghost use Prim.Native.Nat.{ℕ, _+_, _≤_};
+ghost use Prim.Native.Nat.{ℕ, _+_, _≤_, min, max};
 ghost use lib.ListN.{length};
 ghost use Rattle.site.specs.declared.Scenario.{Scenario};
 ghost use Rattle.book.specs.Book.{tableNumbers};
@@ -48,6 +48,13 @@ fn until(start: Start) -> u64
     }
 }
 
+// The later of two months.
+fn later(a: u64, b: u64) -> u64
+    ensures { λ r. ⌜ r ≡ max a b ⌝ }
+{
+    if a < b { b } else { a }
+}
+
 // The last month that a row of the roll is run.
 fn last_month(roll: &[u32], count: usize) -> u64
     requires { ⌜ (length (now roll) ≡ rollWords) × (count ≤ rowsAGroup) ⌝ }
@@ -58,7 +65,7 @@ fn last_month(roll: &[u32], count: usize) -> u64
     while i < count {
         let start = roll::start_at(roll, i);
         let months = until(start);
-        last = if last < months { months } else { last };
+        last = later(last, months);
         i = i + 1;
     }
     last
@@ -132,6 +139,13 @@ fn courses_of(scenario: Scenario, table: &[u32], roll: &[u32], count: usize) -> 
     courses
 }
 
+// So many rows, or those of a full roll.
+fn rows_of(count: usize) -> usize
+    ensures { λ r. ⌜ r ≡ min count rowsAGroup ⌝ }
+{
+    if count < GROUP_ROWS { count } else { GROUP_ROWS }
+}
+
 // The rows of a roll over a site file, a foods block if `has_foods` says so, and a rate book: their answers in words, and how many blocks of the
 // book were decoded.
 pub fn answer_roll(
@@ -146,7 +160,7 @@ pub fn answer_roll(
     ensures { λ r. ⌜ r ≡ filesDecodes (filesIf «has_foods» (now (site .entry)) (now (foods .entry)) (now (book .entry))) ⌝ }
     ensures { λ _. ⌜ now (answers .exit) ≡ answered (rollAnswers stepsADay (filesIf «has_foods» (now (site .entry)) (now (foods .entry)) (now (book .entry))) count (now (roll .entry))) (now (answers .entry)) ⌝ }
 {
-    let rows = if count < GROUP_ROWS { count } else { GROUP_ROWS };
+    let rows = rows_of(count);
     let mut table = [0u32; TABLE_NUMBERS];
     let read = files::read_files(site, has_foods, foods, book, &mut table);
     let decodes = read.decodes;

@@ -2,11 +2,12 @@
 -- Assumes nothing.
 use Prim.Native.Nat.{ℕ, suc, _≤_, _<_}
 use mathlib.Core.Path.{_≡_, refl, sym, ap, _∙_}
-use mathlib.Core.Bool.{Bool, true, false, true≢false}
+use mathlib.Core.Bool.{Bool, true, false, cond}
 use mathlib.Core.List.{List}
 use native.Mathlib.Omega.{arith}
 use borrow.Author.Tests.{eq-eqb, ne-eqb, ltb-false}
 use lib.ListN.{length}
+use lib.Dec.{eqb}
 use Rattle.site.specs.Fields.{fieldCount, at, limits, airGroup, soilGroup, dustGroup, alternateGroup, constantAt, absorbedDustAt, absorbedSoilAt}
 use Rattle.site.proofs.FieldTests.{limit-small}
 use Rattle.lines.specs.declared.RowText.{RowText}
@@ -152,3 +153,14 @@ module _ (kept : RowText) {x : Start} (ex : x ≡ startOf (readKept kept)) where
 
   pub words-of : (y : Start) → x ≡ y → startWords y ≡ startWords (startOf (readKept kept))
   words-of y e = ap startWords (sym e ∙ ex)
+
+-- a row that runs by its words is a card that runs
+running-words : (words : List ℕ) (c : Card) (zero one : Bool)
+    → cond zero (startOf (read.Accepted (cardIn words))) (cond one Skipped (Refused (at words 1))) ≡ Runs c → Running c
+running-words words c true one e = runs-within (read.Accepted (cardIn words)) c e
+running-words words c false true e = let z : _≡_ {A = ℕ} 0 1 = cc in absurd (omega arith)
+running-words words c false false e = let z : _≡_ {A = ℕ} 0 1 = cc in absurd (omega arith)
+
+pub start-running : (words : List ℕ) (c : Card) → startIn words ≡ Runs c → Running c
+unfolding startIn
+start-running words c e = running-words words c (eqb (at words 0) 0) (eqb (at words 0) 1) e

@@ -1,31 +1,34 @@
+-- `group::card_month` meets its contract: past its AGE the course rests, else it goes on by a month.
+-- Assumes nothing.
+use Rattle.group.proofs.GroupCourses.{own-limits, card-rests, card-month-given, card-goes-on}
+use Prim.Native.Nat.{_<_}
+use mathlib.Core.Path.{refl}
+use Rattle.card.specs.Values.{monthsOf}
+use native.Mathlib.Omega.{arith}
+use Rattle.steps.specs.Steps.{stepsADay}
 use borrow.Author.Needs.{needs}
 use Rattle.group.proofs.card_month.Statement.{statement}
 use Rattle.group.proofs.card_month.Tie as tie
-use Rattle.group.proofs.card_month.Reads as reads
-use Rattle.group.proofs.card_month.Lts as lts
-use Rattle.card.proofs.age_of.Reads as age-of-reads
-use Rattle.cardsite.proofs.exposures.row_exposure.Reads as row-exposure-reads
-use Rattle.child.proofs.courses.next_exposed.Reads as next-exposed-reads
 
--- src/lib.rt:79:9
 age-of-requires : tie.Need-age-of-requires
 age-of-requires c κs = search needs
 
--- src/lib.rt:81:9
 returns : tie.Need-returns
-returns c = ?
+returns c = λ scenario table shared run here. card-rests shared _ run stepsADay here (omega (arith, c .before .age-of .ensures, c .if1 .taken))
 
--- src/lib.rt:83:9
 row-exposure-requires : tie.Need-row-exposure-requires
 row-exposure-requires c κs = search needs
 
--- src/lib.rt:84:5
 next-exposed-requires : tie.Need-next-exposed-requires
-next-exposed-requires c κs = ?
+next-exposed-requires c κs =
+    record { exposed = rw (c .row-exposure .ensures) (c .before .before .before .pre .exposed _ refl); booked = c .before .before .before .pre .booked; weights = c .before .before .before .pre .weights }
 
--- src/lib.rt:68:1
 returns-2 : tie.Need-returns-2
-returns-2 c = ?
+returns-2 c =
+    λ scenario table shared run here.
+      let a = c .before .before .before .before .args in
+      let on : a .done < monthsOf (a .card .age) = omega (arith, c .before .before .before .age-of .ensures, c .before .before .if1 .left) in
+      card-goes-on shared _ run stepsADay here on (c .next-exposed .ensures _ _ (card-month-given shared _ run stepsADay here on (c .before .row-exposure .ensures)))
 
 pub card-month-spec : {M : Type 1} → statement M
 card-month-spec =

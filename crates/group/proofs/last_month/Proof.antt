@@ -1,43 +1,48 @@
+-- `group::last_month` meets its contract: the last month of the rows so far.
+-- Assumes nothing.
+use Prim.Native.Nat.{_-_, _≤_}
+use mathlib.Core.Path.{_≡_}
+use native.Mathlib.Omega.{arith}
+use Rattle.group.specs.Internal.{LastMonth}
+use Rattle.group.proofs.GroupCourses.{last-none, last-next}
+use borrow.Author.Needs.{needs}
 use Rattle.group.proofs.last_month.Statement.{statement}
 use Rattle.group.proofs.last_month.Tie as tie
-use Rattle.group.proofs.last_month.Reads as reads
-use Rattle.group.proofs.last_month.Lts as lts
-use Rattle.group.proofs.until.Reads as until-reads
-use Rattle.roll.proofs.start_at.Reads as start-at-reads
 
 abbrev Inv-loop : tie.InvT-loop
-Inv-loop roll count last₀ i₀ last i = ?
+Inv-loop roll count last₀ i₀ last i = (i ≤ count) × LastMonth roll i last
 
 abbrev μ-loop : tie.MeasureT-loop
-μ-loop roll count last₀ i₀ last i = ?
+μ-loop roll count last₀ i₀ last i = count - i
 
--- src/lib.rt:57:5
 loop-holds : tie.Need-loop-holds Inv-loop μ-loop
-loop-holds c = ?
+loop-holds c = (omega arith, last-none _)
 
--- src/lib.rt:58:13
 start-at-requires : tie.Need-start-at-requires Inv-loop μ-loop
-start-at-requires c κs = ?
+start-at-requires c κs = (c .before .before .before .pre .0, omega (arith, c .before .before .before .pre .1))
 
--- src/lib.rt:59:13
 until-requires : tie.Need-until-requires Inv-loop μ-loop
-until-requires c κs = ?
+until-requires c κs = search needs
 
--- src/lib.rt:61:13
+later-requires : tie.Need-later-requires Inv-loop μ-loop
+later-requires c κs = search needs
+
 add-i : tie.Need-add-i Inv-loop μ-loop
-add-i c = ?
+add-i c = search needs
 
--- src/lib.rt:57:5
 loop-less : tie.Need-loop-less Inv-loop μ-loop
-loop-less c = ?
+loop-less c = search needs
 
--- src/lib.rt:57:5
 loop-again : tie.Need-loop-again Inv-loop μ-loop
-loop-again c = ?
+loop-again c =
+    let here = c .before .before .before .before in
+    (omega (arith, c .before .before .before .loop-test .taken), last-next _ (here .loop .inv .1) (c .before .before .start-at .ensures) (c .before .until .ensures) (c .later .ensures))
 
--- src/lib.rt:51:1
 returns : tie.Need-returns Inv-loop μ-loop
-returns c = ?
+returns c =
+    let inv = c .before .loop .inv in
+    let all : c .before .loop .i ≡ c .before .before .before .args .count = omega (arith, inv .0) in
+    rw all at (inv .1)
 
 pub last-month-spec : {M : Type 1} → statement M
 last-month-spec =
@@ -48,6 +53,7 @@ last-month-spec =
     loop-holds
     start-at-requires
     until-requires
+    later-requires
     add-i
     loop-less
     loop-again

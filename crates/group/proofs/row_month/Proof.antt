@@ -1,37 +1,40 @@
+-- `group::row_month` meets its contract: by what becomes of the row.
+-- Assumes nothing.
+use Prim.Native.Nat.{_+_}
+use mathlib.Core.Path.{sym, ap, _∙_}
+use Rattle.group.specs.Internal.{courseBy}
+use Rattle.steps.specs.Steps.{stepsADay}
+use Rattle.group.proofs.GroupCourses.{skipped-rests, refused-rests}
 use borrow.Author.Needs.{needs}
 use Rattle.group.proofs.row_month.Statement.{statement}
 use Rattle.group.proofs.row_month.Tie as tie
-use Rattle.group.proofs.row_month.Reads as reads
-use Rattle.group.proofs.row_month.Lts as lts
-use Rattle.group.proofs.card_month.Reads as card-month-reads
 
--- src/lib.rt:100:21
 enum-known-start : tie.Need-enum-known-start
 enum-known-start c = search needs
 
--- src/lib.rt:100:30
 card-month-requires : tie.Need-card-month-requires
-card-month-requires c κs = ?
+card-month-requires c κs = rw (← c .before .start .given .1) (c .before .before .before .pre)
 
--- src/lib.rt:101:27
 enum-told : tie.Need-enum-told
 enum-told c = search needs
 
--- src/lib.rt:102:30
 enum-told-2 : tie.Need-enum-told-2
 enum-told-2 c = search needs
 
--- src/lib.rt:88:1
 returns : tie.Need-returns
-returns c = ?
+returns c =
+    λ scenario table shared runs here.
+      let e = c .before .before .start .given .1 in
+      let a = c .before .before .before .before .args in
+      c .card-month .ensures scenario table shared (runs _ e) (here ∙ ap (λ x. courseBy stepsADay scenario table x (a .done)) e)
+      ∙ sym (ap (λ x. courseBy stepsADay scenario table x (a .done + 1)) e)
 
--- src/lib.rt:88:1
 returns-2 : tie.Need-returns-2
-returns-2 c = ?
+returns-2 c =
+    λ scenario table shared runs here. skipped-rests stepsADay scenario table _ here (c .enum-told .given .1)
 
--- src/lib.rt:88:1
 returns-3 : tie.Need-returns-3
-returns-3 c = ?
+returns-3 c = λ scenario table shared runs here. refused-rests stepsADay scenario table _ here (c .enum-told2 .given .1)
 
 pub row-month-spec : {M : Type 1} → statement M
 row-month-spec =

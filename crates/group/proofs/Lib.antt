@@ -1,0 +1,3 @@
+pub mod GroupCourses
+pub mod AnswerWords
+pub mod GroupAnswers
