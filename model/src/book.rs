@@ -168,11 +168,17 @@ fn read_block(block: &[u8], number: usize) -> Result<Vec<Row>, Refusal> {
 
 /// The book reader: refusal 1, then each block in turn.
 pub fn read_book(book: &[u8]) -> Result<Book, Refusal> {
+    read_book_counted(book, &mut 0)
+}
+
+/// The book reader; each block that is decoded, the refused one too, raises `decodes` by one.
+pub fn read_book_counted(book: &[u8], decodes: &mut u32) -> Result<Book, Refusal> {
     if book.len() != BOOK_BYTES {
         return Err(Refusal::Length);
     }
     let mut rows = Vec::with_capacity(BOOK_ROWS);
     for (number, block) in book.chunks_exact(BLOCK_BYTES).enumerate() {
+        *decodes += 1;
         rows.extend(read_block(block, number)?);
     }
     Ok(Book { rows })

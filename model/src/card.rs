@@ -1,8 +1,9 @@
 //! Batch cards (request 2 of document 02): a survey's text cut into rows, a row's figures put over a site file, the
 //! child run to its AGE, and `leadcard`'s printout.
 
-use crate::book::Book;
-use crate::engine::{newborn, read_files, walk_month};
+use crate::block::BLOCK_BYTES;
+use crate::book::{read_book_counted, Book, BOOK_BYTES};
+use crate::engine::{newborn, walk_month};
 use crate::foods::{read_foods, Foods};
 use crate::printout::decimals;
 use crate::refusal::{Refusal, ACCEPTED};
@@ -263,19 +264,46 @@ impl From<RowAnswer> for RowCall {
 pub struct Files {
     fields: [u32; SITE_FIELDS],
     foods: Option<Foods>,
-    book: Book,
+    /// The rate book.
+    pub book: Book,
 }
 
 impl Files {
     /// Refusals 1, 3 to 8, 10 and 11, in the order of a birth call.
     pub fn read(site: &[u8], foods: Option<&[u8]>, book: &[u8]) -> Result<Files, Refusal> {
-        let (_, book) = read_files(site, foods, book)?;
-        Ok(Files { fields: read_site(site)?, foods: foods.map(read_foods).transpose()?, book })
+        Files::read_counted(site, foods, book, &mut 0)
+    }
+
+    /// The same; each block of the book that is decoded raises `decodes` by one.
+    pub fn read_counted(
+        site: &[u8],
+        foods: Option<&[u8]>,
+        book: &[u8],
+        decodes: &mut u32,
+    ) -> Result<Files, Refusal> {
+        // A wrong length of the foods block is met where the block is read, after the site.
+        if site.len() != BLOCK_BYTES || book.len() != BOOK_BYTES {
+            return Err(Refusal::Length);
+        }
+        let fields = read_site(site)?;
+        let foods = foods.map(read_foods).transpose()?;
+        Ok(Files { fields, foods, book: read_book_counted(book, decodes)? })
+    }
+
+    /// What a row asks for over these files: nothing if it is skipped, or refusal 12 or 7.
+    pub fn asked(&self, row: &[u8]) -> Result<Option<Asked>, Refusal> {
+        put_over(&read_row(row)?, &self.fields)
+    }
+
+    /// The site that a row's child lives by, with the diet of the foods if they are there.
+    pub fn site(&self, asked: &Asked) -> Site {
+        let site = Site::of_fields(&asked.fields);
+        self.foods.as_ref().map_or(site, |foods| site.with_foods(foods))
     }
 
     /// What a row answers over these files.
     pub fn answer(&self, row: &[u8]) -> RowAnswer {
-        match read_row(row).and_then(|row| put_over(&row, &self.fields)) {
+        match self.asked(row) {
             Err(refusal) => RowAnswer::Refused(refusal),
             Ok(None) => RowAnswer::Skipped,
             Ok(Some(asked)) => self.course(&asked).map_or_else(RowAnswer::Refused, RowAnswer::Blood),
@@ -284,10 +312,7 @@ impl Files {
 
     /// Birth and the months up to AGE: the blood at its end, or the first refusal of 9 and 22.
     fn course(&self, asked: &Asked) -> Result<u32, Refusal> {
-        let mut site = Site::of_fields(&asked.fields);
-        if let Some(foods) = &self.foods {
-            site = site.with_foods(foods);
-        }
+        let site = self.site(asked);
         let (mut state, mut blood) = (newborn(&site, &self.book)?, 0);
         for _ in 0..asked.month {
             (state, blood) = walk_month(&site, &self.book, &state, &mut |_| {})?;

@@ -7,7 +7,7 @@
 
 mod card;
 
-pub use card::card_row;
+pub use card::{card_row, rows_one_by_one};
 
 use crate::block::{BLOCK_BYTES, BODY_BYTES, EDITION, EDITION_AT, FIELDS_AT, FIELD_BYTES, NUMBER_AT};
 use crate::book::{self, column, RowFields, BLOCK_ROWS, BOOK_BYTES, BOOK_ROWS, ROW_FIELDS};
@@ -206,8 +206,8 @@ fn row_fits(row: &RowFields) -> bool {
         && row[column::BACK + book::SKIN_EXIT] + row[column::SKIN] <= d
 }
 
-fn read_book(book: &[u8; BOOK_BYTES]) -> Result<Box<Rows>, Refusal> {
-    let mut rows = Box::new([[0; ROW_FIELDS]; BOOK_ROWS]);
+/// The book decoded and checked; the rows may hold anything before.
+fn decode_book(book: &[u8; BOOK_BYTES], rows: &mut Rows) -> Result<(), Refusal> {
     for (number, block) in book.chunks_exact(BLOCK_BYTES).enumerate() {
         let block: &[u8; BLOCK_BYTES] = block.try_into().unwrap();
         inspect(block, number as u16, book::RESERVED_AT)?;
@@ -221,6 +221,12 @@ fn read_book(book: &[u8; BOOK_BYTES]) -> Result<Box<Rows>, Refusal> {
             }
         }
     }
+    Ok(())
+}
+
+fn read_book(book: &[u8; BOOK_BYTES]) -> Result<Box<Rows>, Refusal> {
+    let mut rows = Box::new([[0; ROW_FIELDS]; BOOK_ROWS]);
+    decode_book(book, &mut rows)?;
     Ok(rows)
 }
 
@@ -239,6 +245,12 @@ fn read(site: &[u8], foods: Option<&[u8]>, book: &[u8], list: usize) -> Result<C
     if list != MONTHS {
         return Err(Refusal::BloodList);
     }
+    let (fields, diets) = read_yard(site, foods)?;
+    Ok(Card { fields, diets, rows: read_book(book)? })
+}
+
+/// All that is read before the book: the site, and the diets that it or the foods give.
+fn read_yard(site: &[u8; BLOCK_BYTES], foods: Option<&[u8]>) -> Result<(Fields, Diets), Refusal> {
     let fields = read_site(site)?;
     let diets = match foods {
         None => std::array::from_fn(|age| fields[place::DIET + age].into()),
@@ -247,7 +259,7 @@ fn read(site: &[u8], foods: Option<&[u8]>, book: &[u8], list: usize) -> Result<C
             std::array::from_fn(|age| diet(&figures, age))
         }
     };
-    Ok(Card { fields, diets, rows: read_book(book)? })
+    Ok((fields, diets))
 }
 
 /// T of a month, or refusal 9.

@@ -7,6 +7,7 @@ use crate::book::{Table, BOOK_ROWS, ROW_FIELDS};
 use crate::card::RowCall;
 use crate::engine::{BirthAnswer, MonthAnswer, RunAnswer};
 use crate::foods::FOODS_FIGURES;
+use crate::group::{GroupCall, GROUP_ANSWERS};
 use crate::site::SITE_FIELDS;
 use crate::state::State;
 
@@ -91,6 +92,20 @@ extern "C" {
         row_len: usize,
         blood: *mut u32,
         skipped: *mut u8,
+    ) -> u32;
+    fn jurengate_card_group(
+        site: *const u8,
+        site_len: usize,
+        has_foods: bool,
+        foods: *const u8,
+        foods_len: usize,
+        book: *const u8,
+        book_len: usize,
+        rows: *const u8,
+        rows_len: usize,
+        answers: *mut u32,
+        decodes: *mut u32,
+        next: *mut usize,
     ) -> u32;
 }
 
@@ -260,4 +275,45 @@ pub fn card_row_beside(site: &[u8], has_foods: bool, foods: &[u8], book: &[u8], 
     };
     assert!(skipped <= 1, "the engine left {skipped:#x} for a bool");
     RowCall { number, blood, skipped: skipped == 1 }
+}
+
+/// The engine's call of a group of rows of a batch card, with a foods block if there is one, over a lent list of pairs.
+pub fn card_group(
+    site: &[u8],
+    foods: Option<&[u8]>,
+    book: &[u8],
+    rows: &[u8],
+    answers: &mut [u32; GROUP_ANSWERS],
+) -> GroupCall {
+    card_group_beside(site, foods.is_some(), foods.unwrap_or_default(), book, rows, answers)
+}
+
+/// The same call with the bytes of a foods block at hand, whether it has one or not.
+pub fn card_group_beside(
+    site: &[u8],
+    has_foods: bool,
+    foods: &[u8],
+    book: &[u8],
+    rows: &[u8],
+    answers: &mut [u32; GROUP_ANSWERS],
+) -> GroupCall {
+    let (mut decodes, mut next) = (FILLER, WIDE_FILLER as usize);
+    // SAFETY: the pointers span the four slices, 128 writable numbers, one count and one length.
+    let taken = unsafe {
+        jurengate_card_group(
+            site.as_ptr(),
+            site.len(),
+            has_foods,
+            foods.as_ptr(),
+            foods.len(),
+            book.as_ptr(),
+            book.len(),
+            rows.as_ptr(),
+            rows.len(),
+            answers.as_mut_ptr(),
+            &mut decodes,
+            &mut next,
+        )
+    };
+    GroupCall { rows: taken, decodes, next }
 }

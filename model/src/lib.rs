@@ -1,5 +1,5 @@
 //! An independent model of the counter box's engine, written from document 01
-//! ("The counter box: IEUBK in whole numbers"), requests 1 and 2 of document 02 and the
+//! ("The counter box: IEUBK in whole numbers"), requests 1, 2 and 4 of document 02 and the
 //! agency's papers alone.
 //!
 //! The model is made to be read beside the paper, not to be fast: every sum is
@@ -24,6 +24,7 @@ pub mod fast;
 pub mod ffi;
 pub mod figures;
 pub mod foods;
+pub mod group;
 pub mod kinetics;
 pub mod leaflet;
 pub mod printout;

@@ -15,8 +15,8 @@ pub use foods::{all_eaten, break_diet, eat_alone, foods, foods_fault, foods_faul
 pub use generator::Generator;
 pub use states::{any_numbers, any_state, burdened, no_state, state};
 pub use survey::{
-    any_row, break_texts, field_texts, joined, just_over, over, scratched, survey, survey_row, text_fault,
-    text_faults, FieldTexts, TextFault, AGES_OUTSIDE, NO_FIGURES,
+    any_row, break_texts, field_texts, group_row, group_text, joined, just_over, over, scratched, survey,
+    survey_row, text_fault, text_faults, FieldTexts, TextFault, AGES_OUTSIDE, NO_FIGURES,
 };
 
 use crate::book::{column, RowFields, BOOK_ROWS, ROW_FIELDS};

@@ -1,7 +1,10 @@
-//! A row of a batch card in quick Rust: the files are read anew for each row.
+//! Rows of batch cards in quick Rust: one row over files that are read for it alone, and a text's rows one by one over
+//! a book that is decoded anew for each.
 
-use super::{newborn, read, step_month, Card, Fields};
+use super::{decode_book, newborn, read, read_yard, step_month, Card, Diets, Fields, Rows};
+use crate::book::{BOOK_ROWS, ROW_FIELDS};
 use crate::card::{field, Form, RowCall, CARD_FIELDS, FIELD_MOST, FORMS, GOES};
+use crate::group::{kind, GROUP_ANSWERS};
 use crate::refusal::{Refusal, ACCEPTED};
 use crate::site::place;
 use crate::state::MONTHS;
@@ -71,27 +74,61 @@ fn put(values: &Values, fields: &mut Fields) -> Result<(), Refusal> {
     Ok(())
 }
 
-/// Blood at AGE, nothing for a skipped row.
-fn answer(site: &[u8], foods: Option<&[u8]>, book: &[u8], row: &[u8]) -> Result<Option<u32>, Refusal> {
-    let Card { mut fields, diets, rows } = read(site, foods, book, MONTHS)?;
+/// Blood at AGE over files that are read, nothing for a skipped row.
+fn answer(mut fields: Fields, diets: &Diets, rows: &Rows, row: &[u8]) -> Result<Option<u32>, Refusal> {
     let values = read_row(row)?;
     let age = values[field::AGE].unwrap_or(0) / 1_000;
     if age < 1 || age > MONTHS as u32 || (values[field::SOIL].is_none() && values[field::DUST].is_none()) {
         return Ok(None);
     }
     put(&values, &mut fields)?;
-    let (mut state, mut blood) = (newborn(&fields, &rows)?, 0);
+    let (mut state, mut blood) = (newborn(&fields, rows)?, 0);
     for _ in 0..age {
-        (state, blood) = step_month(&fields, &diets, &rows, state)?;
+        (state, blood) = step_month(&fields, diets, rows, state)?;
     }
     Ok(Some(blood))
 }
 
 /// The call of one row.
 pub fn card_row(site: &[u8], foods: Option<&[u8]>, book: &[u8], row: &[u8]) -> RowCall {
-    match answer(site, foods, book, row) {
+    let card = read(site, foods, book, MONTHS);
+    match card.and_then(|Card { fields, diets, rows }| answer(fields, &diets, &rows, row)) {
         Ok(Some(blood)) => RowCall { number: ACCEPTED, blood, skipped: false },
         Ok(None) => RowCall { number: ACCEPTED, blood: 0, skipped: true },
         Err(refusal) => RowCall { number: refusal.number(), blood: 0, skipped: false },
     }
+}
+
+/// The first rows of a text without headings, 64 at most, each run by itself: site and foods are read once, the book is
+/// decoded and checked anew for each row. Answers how many rows there were; each fills its pair of the list.
+pub fn rows_one_by_one(
+    site: &[u8],
+    foods: Option<&[u8]>,
+    book: &[u8],
+    text: &[u8],
+    answers: &mut [u32; GROUP_ANSWERS],
+) -> u32 {
+    let files = match (site.try_into(), book.try_into()) {
+        (Ok(site), Ok(book)) => read_yard(site, foods).map(|(fields, diets)| (fields, diets, book)),
+        _ => Err(Refusal::Length),
+    };
+    // The empty line behind the last line feed is no row.
+    let text = text.strip_suffix(b"\n").map_or((!text.is_empty()).then_some(text), Some);
+    let texts = text.into_iter().flat_map(|text| text.split(|&byte| byte == b'\n'));
+    let mut rows = [[0; ROW_FIELDS]; BOOK_ROWS];
+    let mut taken = 0;
+    for (pair, row) in answers.chunks_exact_mut(2).zip(texts) {
+        let outcome = files.and_then(|(fields, diets, book)| {
+            decode_book(book, &mut rows)?;
+            answer(fields, &diets, &rows, row)
+        });
+        let (kind, number) = match outcome {
+            Ok(Some(blood)) => (kind::BLOOD, blood),
+            Ok(None) => (kind::SKIPPED, 0),
+            Err(refusal) => (kind::REFUSED, refusal.number()),
+        };
+        pair.copy_from_slice(&[kind, number]);
+        taken += 1;
+    }
+    taken
 }

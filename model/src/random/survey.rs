@@ -336,3 +336,34 @@ pub fn survey(generator: &mut Generator, range: Range, rows: usize) -> Vec<u8> {
     }
     text
 }
+
+/// A row of a group: mostly of a child so young that its months are few, else any row, an empty one or a long one.
+pub fn group_row(generator: &mut Generator, range: Range) -> Vec<u8> {
+    match generator.index(16) {
+        0 => Vec::new(),
+        1 => {
+            let mut row = any_row(generator, range);
+            let at = generator.index(row.len() + 1);
+            row.splice(at..at, vec![b' '; generator.index(2_000)]);
+            row
+        }
+        2 => any_row(generator, range),
+        3 => survey_row(generator, range, 1),
+        _ => {
+            let mut texts = field_texts(generator, range);
+            texts[field::AGE] = generator.between(1, 3).to_string().into_bytes();
+            joined(generator, &texts)
+        }
+    }
+}
+
+/// The text of a group, without headings: this many rows, the last line feed there or not.
+pub fn group_text(generator: &mut Generator, range: Range, rows: usize) -> Vec<u8> {
+    let rows: Vec<Vec<u8>> = (0..rows).map(|_| group_row(generator, range)).collect();
+    let mut text = rows.join(&b'\n');
+    // An empty last row is one by its line feed alone.
+    if rows.last().is_some_and(|last| last.is_empty() || !generator.once_in(3)) {
+        text.push(b'\n');
+    }
+    text
+}
