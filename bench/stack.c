@@ -49,6 +49,27 @@ static void card_row(void) {
     }
 }
 
+/* A full group of such rows, without foods and with them; a row that is not run is told as its refusal. */
+static void card_group(void) {
+    static const char row[] = "A1 7 8 84 200.5 150.25 4.125 0.1 1.5 3.2 30 30\n";
+    static uint8_t text[JURENGATE_GROUP_ROWS * (sizeof row - 1)];
+    static uint32_t answers[JURENGATE_GROUP_ANSWERS], decodes;
+    static size_t next;
+    for (size_t i = 0; i < JURENGATE_GROUP_ROWS; i++) {
+        memcpy(text + i * (sizeof row - 1), row, sizeof row - 1);
+    }
+    refusal = JURENGATE_ACCEPTED;
+    for (int has_foods = 0; has_foods < 2; has_foods++) {
+        jurengate_card_group(site, sizeof site, has_foods, foods, sizeof foods, book, sizeof book, text, sizeof text, answers,
+                             &decodes, &next);
+        for (size_t i = 0; i < JURENGATE_GROUP_ROWS; i++) {
+            if (answers[2 * i] != JURENGATE_GROUP_BLOOD) {
+                refusal = answers[2 * i + 1];
+            }
+        }
+    }
+}
+
 static uint8_t *stack;
 
 /* Answers how far below this frame the call has written. */
@@ -103,7 +124,7 @@ int main(int argc, char **argv) {
         {"read_site", read_site}, {"read_book", read_book}, {"write_block", write_block},
         {"birth", birth}, {"month", month}, {"run", run},
         {"read_foods", read_foods}, {"birth_foods", birth_foods}, {"month_foods", month_foods}, {"run_foods", run_foods},
-        {"card_row", card_row},
+        {"card_row", card_row}, {"card_group", card_group},
     };
     for (size_t i = 0; i < sizeof calls / sizeof calls[0]; i++) {
         printf("%s: %zu bytes of stack", calls[i].name, peak(calls[i].call) - thread);

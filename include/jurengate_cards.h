@@ -1,21 +1,24 @@
 /* Jurengate: the rows of a batch card, the text of a community survey. Link libjurengate_cards.a, alone or beside libjurengate.a.
  *
- * A site file, a rate book and one row of the text go in; the blood lead of that row's child at its age comes out. The row's
- * figures take the place of the site file's at all ages; what the row leaves out is the site file's own. docs/FORMAT.md has the
- * text and the files; the names of refusals and the sizes of files are those of jurengate.h, which this header includes. Blood
- * lead is in thousandths of ug/dL. C99, and C++ from C++11 on.
+ * A site file, a rate book and rows of the text go in; the blood lead of each row's child at its age comes out. card_row takes one
+ * row; card_group takes up to 64 rows of a text and reads the files once for them all. A row's figures take the place of the site
+ * file's at all ages; what the row leaves out is the site file's own. docs/FORMAT.md has the text and the files; the names of
+ * refusals and the sizes of files are those of jurengate.h, which this header includes. Blood lead is in thousandths of ug/dL.
+ * C99, and C++ from C++11 on.
  *
  * THE TEXT. JURENGATE_CARD_HEADINGS heading lines of any content, then rows. A row ends at a line feed (byte 10) or at the end of
- * the text; nothing after the last line feed is no row. The caller cuts the text: a row is handed in without its line feed, and
- * one that is handed in is a byte like the others. A row is JURENGATE_CARD_FIELDS fields of at most JURENGATE_CARD_FIELD_BYTES
- * bytes each, parted by spaces (byte 32) alone; a tab or a carriage return belongs to a field. There may be any number of spaces,
- * before the first field and behind the last too, so that a row may have any length.
+ * the text; nothing after the last line feed is no row, and an empty line is one. A row is JURENGATE_CARD_FIELDS fields of at most
+ * JURENGATE_CARD_FIELD_BYTES bytes each, parted by spaces (byte 32) alone; a tab or a carriage return belongs to a field. There
+ * may be any number of spaces, before the first field and behind the last too, so that a row may have any length.
+ *
+ * For card_row the caller cuts the text: a row is handed in without its line feed, and one that is handed in is a byte like the
+ * others. card_group cuts it itself; the caller passes over the headings, and hands in what is behind them.
  *
  * A figure is digits, then at most a point and one to three digits; a whole figure has no point. No sign, no comma, no `.5`, no
  * `5.`. An asterisk alone stands for a missing figure, in any field but ID, where it is text.
  *
- * CALL. Nothing has to be checked before the call: it takes bytes of any length and content, and answers JURENGATE_ACCEPTED or the
- * first refusal that holds. They are tried in this order:
+ * CALLS. Nothing has to be checked before a call: it takes bytes of any length and content. A row is accepted or has the first
+ * refusal that holds. They are tried in this order:
  *
  *   the files     1 of site file or book, the site file's 3 to 7, with foods the block's 1, 3 to 6, 10 and 11, the book's 3 to 6
  *                 and 8
@@ -29,17 +32,35 @@
  * if the row has no figure there. If one of SOIL and DUST is missing, it is the other's figure. If WATER, AIR, OTHER, ABSSOIL or
  * ABSDUST is missing, the site file's own stays, age by age. FAM, BLOCK and PBB must be figures or asterisks, and change nothing.
  *
- * MEMORY. No pointer may be null, not even that of an empty file or row, or of foods that are not there: with length 0 it may be
- * any other address that its type allows, and nothing is read there. Bytes may lie anywhere; *blood must be aligned as its type
- * is. blood and skipped may not overlap each other or anything else that is handed in; files and row are only read, and may.
- * Nothing outside the lent memory is written. The call keeps nothing, uses no heap and has no static data, so that calls with
- * memory of their own may run at the same time, in threads or interrupts; they may share their files.
+ * A GROUP is the first JURENGATE_GROUP_ROWS rows of a text, or all of them if they are fewer; rows that are skipped or refused
+ * count among them. Each row has the answer that card_row gives for it alone, in every case: a refused row stops no other, and a
+ * refusal of the files is every row's. A longer text goes in groups, each from where the last one has ended:
  *
- * STACK. The call stays within its JURENGATE_STACK_ bytes: that is tested, not proved. They are what was measured
- * (docs/MEASURED.md) and a tenth of it. The call returns, and does not call back.
+ *   for (size_t from = 0; from < length; from += next) {
+ *       uint32_t taken = jurengate_card_group(.., text + from, length - from, answers, &decodes, &next);
+ *       for (uint32_t row = 0; row < taken; row++) {
+ *           .. answers[2 * row] says what answers[2 * row + 1] is
+ *       }
+ *   }
+ *
+ * What a group costs in reads of the card is told: each block of the book is decoded at most once, to check it and to run by it,
+ * and the count of those that were decoded is answered. It is JURENGATE_BOOK_BLOCKS if the book is accepted, whatever the rows
+ * say and if there are none; n + 1 if block n is the first that is refused; and 0 if the files are refused before the book's
+ * blocks, a wrong length of the book included.
+ *
+ * MEMORY. No pointer may be null, not even that of an empty file, row or text, or of foods that are not there: with length 0 it
+ * may be any other address that its type allows, and nothing is read there. Bytes may lie anywhere; *blood, answers, *decodes and
+ * *next must be aligned as their types are. The memory that a call fills (blood and skipped; answers, decodes and next) may not
+ * overlap each other or anything else that is handed in; files, row and text are only read, and may. Nothing outside the lent
+ * memory is written. The calls keep nothing, use no heap and have no static data, so that calls with memory of their own may run
+ * at the same time, in threads or interrupts; they may share their files and their text.
+ *
+ * STACK. Each call stays within its JURENGATE_STACK_ bytes: that is tested, not proved. They are what was measured
+ * (docs/MEASURED.md) and a tenth of it. A group has all its children on the stack at once: it is a desktop's job first, but it
+ * fits the box, and leaves half of its memory for the files and the text. Every call returns, and none calls back.
  *
  * LINKING. The library needs memcpy and memset from the C library, and nothing else; beside libjurengate.a it may stand before or
- * behind it. It is x86-64 Linux object code today; the stack figure is of it.
+ * behind it. It is x86-64 Linux object code today; the stack figures are of it.
  */
 #ifndef JURENGATE_CARDS_H
 #define JURENGATE_CARDS_H
@@ -52,7 +73,7 @@
 
 /* The version of this interface; its parts rise as those of jurengate.h do. */
 #define JURENGATE_CARDS_VERSION_MAJOR 0
-#define JURENGATE_CARDS_VERSION_MINOR 1
+#define JURENGATE_CARDS_VERSION_MINOR 2
 #define JURENGATE_CARDS_VERSION_PATCH 0
 
 /* The text. */
@@ -60,13 +81,25 @@
 #define JURENGATE_CARD_FIELDS 12     /* fields of a row */
 #define JURENGATE_CARD_FIELD_BYTES 8 /* the longest field, ID too */
 
-/* Bytes of stack that suffice for the call, memcpy and memset included. */
-#define JURENGATE_STACK_CARD_ROW 12100
+/* A group. */
+#define JURENGATE_GROUP_ROWS 64     /* its rows at most */
+#define JURENGATE_GROUP_ANSWERS 128 /* the numbers that it fills at most: two a row */
 
-/* What the call answers beside the refusals of jurengate.h. JURENGATE_FIELD_OUTSIDE_LIMITS is the site file's, or a figure of the
+/* Bytes of stack that suffice for each call, memcpy and memset included. */
+#define JURENGATE_STACK_CARD_ROW 12100
+#define JURENGATE_STACK_CARD_GROUP 32000
+
+/* What a row answers beside the refusals of jurengate.h. JURENGATE_FIELD_OUTSIDE_LIMITS is the site file's, or a figure of the
  * row over the limit that stands below. */
 enum jurengate_card_refusal {
     JURENGATE_CARD_TEXT_WRONG = 12 /* not twelve fields, a field over 8 bytes, or no figure where one is due */
+};
+
+/* The first number of a row's two in a group's answers: it says what the second is. */
+enum jurengate_group_kind {
+    JURENGATE_GROUP_BLOOD = 0,   /* the blood at AGE */
+    JURENGATE_GROUP_SKIPPED = 1, /* 0: the row is skipped */
+    JURENGATE_GROUP_REFUSED = 2  /* the number of the row's refusal: 1, 3 to 12 or 22 */
 };
 
 /* Places of a row's fields. */
@@ -96,6 +129,15 @@ extern "C" {
 uint32_t jurengate_card_row(const uint8_t *site, size_t site_len, bool has_foods, const uint8_t *foods, size_t foods_len,
                             const uint8_t *book, size_t book_len, const uint8_t *row, size_t row_len,
                             uint32_t *blood, bool *skipped);
+
+/* A group of rows over the same files as above: the first JURENGATE_GROUP_ROWS of a text without headings. It answers how many rows
+ * it took, 0 to 64; no number of its answer is a refusal. The first two numbers of answers are those of the text's first row, the
+ * next two those of its second, and so on; those behind the last row that was taken are kept as they were. *decodes is how many
+ * blocks of the book were decoded, and *next where in the text the first row that was not taken starts, or the text's length if
+ * there is none; both are filled in every case. What the memory held before does not matter. */
+uint32_t jurengate_card_group(const uint8_t *site, size_t site_len, bool has_foods, const uint8_t *foods, size_t foods_len,
+                              const uint8_t *book, size_t book_len, const uint8_t *rows, size_t rows_len,
+                              uint32_t answers[JURENGATE_GROUP_ANSWERS], uint32_t *decodes, size_t *next);
 
 #ifdef __cplusplus
 }

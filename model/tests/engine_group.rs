@@ -4,7 +4,7 @@
 #[path = "support/unabsorbed.rs"]
 mod unabsorbed;
 
-use jurengate_model::book::{column, BLOCK_ROWS, BOOK_BLOCKS, BOOK_ROWS};
+use jurengate_model::book::{BLOCK_ROWS, BOOK_BLOCKS, BOOK_ROWS};
 use jurengate_model::card::{lines, RowCall};
 use jurengate_model::cards::{book_file, curves, foods_file, published, site_file};
 use jurengate_model::ffi;

@@ -15,6 +15,7 @@ use jurengate_model::card::{answers, fields, rows, FIELD_MOST};
 use jurengate_model::cards::{curves, foods_file, published};
 use jurengate_model::engine;
 use jurengate_model::foods::food;
+use jurengate_model::group::{group, GROUP_ROWS};
 use std::fs;
 use std::path::{Path, PathBuf};
 use std::process::Command;
@@ -193,4 +194,122 @@ fn the_cards_example_tells_of_missing_files() {
     let output = Command::new(&program).arg(&site).output().expect("the example runs");
     assert_eq!(output.status.code(), Some(2));
     assert_eq!(String::from_utf8_lossy(&output.stderr), "usage: cards SITE BOOK CARD [FOODS]\n");
+}
+
+/// What the example of the groups is to say on standard error: a line for each group of the text's rows.
+fn expected_groups(site: &[u8], foods: Option<&[u8]>, book: &[u8], text: &[u8]) -> String {
+    let rows = rows(text);
+    let groups = rows.chunks(GROUP_ROWS).map(|some| {
+        let decodes = group(site, foods, book, &some.join(&b'\n')).decodes;
+        format!("group: rows {}, blocks of the book decoded {decodes}\n", some.len())
+    });
+    groups.collect()
+}
+
+/// Builds an example of the cards' library alone.
+fn build_cards(source: &str, program: &Path) {
+    c_program::build_with(&repository::at(source), &[c_program::cards_library()], &[], program);
+}
+
+/// The text of a card with this many rows of every kind, one of them very long.
+fn card_text(count: usize, end: &str) -> Vec<u8> {
+    let long = format!("long{}1 1 2 400 * * * * * * *", " ".repeat(9_000));
+    let kinds = [
+        "ok 1 1 1 400 * * * * * * *",
+        "* 1 1 * 400 * * * * * * *",
+        "",
+        "\u{1b}[1m\u{e9} 1 1 2 1 1 1 1 1 1 1 1",
+        "over 1 1 12 50001 1 * * * * * *",
+        "123456789 1",
+        &long,
+    ];
+    let rows: Vec<&str> = (0..count).map(|turn| kinds[turn % kinds.len()]).collect();
+    format!("a\n\nc\n{}{end}", rows.join("\n")).into_bytes()
+}
+
+/// For the same card the examples of rows and of groups print the same; groups are told on standard error.
+#[test]
+fn the_group_example_prints_what_the_cards_example_does() {
+    let folder = Folder::new("group-example");
+    let (cards, groups) = (folder.path().join("cards"), folder.path().join("group"));
+    build_cards("examples/cards.c", &cards);
+    build_cards("examples/group.c", &groups);
+    let (site, book, foods) = (published::site(), curves::book(), foods_file(&published::foods()));
+    let mut texts: Vec<Vec<u8>> = [0, 1, 63, 64, 65, 130]
+        .into_iter()
+        .flat_map(|count| [card_text(count, ""), card_text(count, "\n")])
+        .collect();
+    texts.extend(["", "a\nb\nc", "a\nb\nc\n", "\n\n\n\n", "a\nb\nc\n "].map(|text| text.as_bytes().to_vec()));
+    let longer = |bytes: &[u8]| [bytes, &[0; 600]].concat();
+    let (mut damaged, mut spoilt) = (site.clone(), book.clone());
+    damaged[4] ^= 1;
+    spoilt[6 * 512 + 9] ^= 1;
+    type Files<'a> = (&'a [u8], Option<&'a [u8]>, &'a [u8], u32);
+    let cases: [Files; 9] = [
+        (&site, None, &book, 17),
+        (&site, Some(&foods), &book, 17),
+        (&site, Some(&foods[..511]), &book, 0),
+        (&site, Some(&longer(&foods)), &book, 0),
+        (&damaged, None, &book, 0),
+        (&site, None, &spoilt, 7),
+        (&site, None, &book[..8_703], 0),
+        (&site, None, &longer(&book), 0),
+        (&longer(&site), None, &book, 0),
+    ];
+    for text in &texts {
+        for (site, foods, book, decodes) in cases {
+            let mut files =
+                vec![folder.write("site", site), folder.write("book", book), folder.write("card", text)];
+            files.extend(foods.map(|foods| folder.write("foods", foods)));
+            let (printed, told) = run_rows(&groups, &files);
+            assert_eq!(run_rows(&cards, &files), (printed.clone(), String::new()));
+            assert_eq!(printed, expected_rows(site, foods, book, text));
+            assert_eq!(told, expected_groups(site, foods, book, text));
+            assert_eq!(told.lines().count(), rows(text).len().div_ceil(GROUP_ROWS));
+            assert!(told.lines().all(|line| line.ends_with(&format!(" decoded {decodes}"))), "{told}");
+        }
+    }
+}
+
+/// The sample's rows, and the library on either side of the other.
+#[test]
+fn the_group_example_prints_the_sample_however_it_is_linked() {
+    let folder = Folder::new("group-linked");
+    let (program, sample) = (folder.path().join("group"), repository::at("samples/survey"));
+    let files = ["site.lkb", "book.lkb", "card.txt"].map(|file| sample.join(file));
+    let [site, book, text] = files.each_ref().map(|file| fs::read(file).expect("a file of the sample"));
+    let due = (expected_rows(&site, None, &book, &text), expected_groups(&site, None, &book, &text));
+    assert!(due.1.ends_with(", blocks of the book decoded 17\n"), "{}", due.1);
+    let (first, cards) = (c_program::library(), c_program::cards_library());
+    for archives in [vec![cards.clone()], vec![first.clone(), cards.clone()], vec![cards, first]] {
+        c_program::build_with(&repository::at("examples/group.c"), &archives, &[], &program);
+        assert_eq!(run_rows(&program, &files), due, "{archives:?}");
+    }
+}
+
+/// A file that is missing counts as empty, and is named.
+#[test]
+fn the_group_example_tells_of_missing_files() {
+    let folder = Folder::new("group-missing");
+    let program = folder.path().join("group");
+    build_cards("examples/group.c", &program);
+    let site = folder.write("site", &published::site());
+    let book = folder.write("book", &curves::book());
+    let card = folder.write("card", b"\n\n\nchild 1 1 12 400 * * * * * * *\n");
+    let missing = folder.path().join("missing");
+    let told = format!("group: {} cannot be read, and counts as empty\n", missing.display());
+    let group = "group: rows 1, blocks of the book decoded 0\n";
+    let cases = [
+        (vec![&missing, &book, &card], "child refused 1\n", group),
+        (vec![&site, &missing, &card], "child refused 1\n", group),
+        (vec![&site, &book, &missing], "", ""),
+        (vec![&site, &book, &card, &missing], "child refused 1\n", group),
+    ];
+    for (files, due, groups) in cases {
+        let files: Vec<PathBuf> = files.into_iter().cloned().collect();
+        assert_eq!(run_rows(&program, &files), (due.to_string(), told.clone() + groups));
+    }
+    let output = Command::new(&program).arg(&site).output().expect("the example runs");
+    assert_eq!(output.status.code(), Some(2));
+    assert_eq!(String::from_utf8_lossy(&output.stderr), "usage: group SITE BOOK CARD [FOODS]\n");
 }

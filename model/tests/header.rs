@@ -17,6 +17,7 @@ mod stack_bounds;
 use folder::Folder;
 use jurengate_model::book::{self, Row};
 use jurengate_model::card::{self, GOES};
+use jurengate_model::group::{self, kind};
 use jurengate_model::kinetics::blood_figure;
 use jurengate_model::refusal::{Refusal, ACCEPTED};
 use jurengate_model::state::{self, compartment, COMPARTMENTS, LEDGERS, MONTHS};
@@ -34,7 +35,7 @@ const PREFIX: &str = "JURENGATE_";
 /// The include guards, which are no numbers.
 const GUARDS: [&str; 2] = ["JURENGATE_H", "JURENGATE_CARDS_H"];
 /// The version of the rows' interface.
-const CARDS_VERSION: [u128; 3] = [0, 1, 0];
+const CARDS_VERSION: [u128; 3] = [0, 2, 0];
 
 /// A name of the header and the number that it must have.
 type Named = (String, u128);
@@ -149,6 +150,11 @@ fn all_named_of_cards() -> Vec<Named> {
         ("CARD_FIELDS", card::CARD_FIELDS as u128),
         ("CARD_FIELD_BYTES", card::FIELD_MOST as u128),
         ("CARD_TEXT_WRONG", Refusal::CardRow.number().into()),
+        ("GROUP_ROWS", group::GROUP_ROWS as u128),
+        ("GROUP_ANSWERS", group::GROUP_ANSWERS as u128),
+        ("GROUP_BLOOD", kind::BLOOD.into()),
+        ("GROUP_SKIPPED", kind::SKIPPED.into()),
+        ("GROUP_REFUSED", kind::REFUSED.into()),
     ];
     let named = named.map(|(name, value)| (name.to_string(), value)).to_vec();
     prefixed([named, stack_bounds(&CARDS_STACK_BOUNDS), named_places("CARD", &CARD)].concat())
@@ -233,11 +239,13 @@ struct calls calls = {
 }
 
 #[test]
-fn the_declaration_of_a_row_s_call_is_that_of_the_library() {
+fn the_declarations_of_a_row_and_a_group_are_those_of_the_library() {
     let text = r#"
 #include "jurengate_cards.h"
 uint32_t (*card_row)(const uint8_t *, size_t, bool, const uint8_t *, size_t, const uint8_t *, size_t,
                      const uint8_t *, size_t, uint32_t *, bool *) = jurengate_card_row;
+uint32_t (*card_group)(const uint8_t *, size_t, bool, const uint8_t *, size_t, const uint8_t *, size_t,
+                       const uint8_t *, size_t, uint32_t *, uint32_t *, size_t *) = jurengate_card_group;
 "#;
     compile_as_c_and_cpp("declaration-of-rows", text);
 }
@@ -263,6 +271,18 @@ int is_over(const uint64_t state[JURENGATE_STATE_WORDS]) {
 }
 "#;
     compile_as_c_and_cpp("names", text);
+    let text = r#"
+#include "jurengate_cards.h"
+uint32_t refusals(const uint32_t answers[JURENGATE_GROUP_ANSWERS], uint32_t taken);
+uint32_t refusals(const uint32_t answers[JURENGATE_GROUP_ANSWERS], uint32_t taken) {
+    uint32_t refused = 0;
+    for (uint32_t row = 0; row < taken && row < JURENGATE_GROUP_ROWS; row++) {
+        refused += answers[2 * row] == JURENGATE_GROUP_REFUSED && answers[2 * row + 1] == JURENGATE_CARD_TEXT_WRONG;
+    }
+    return refused;
+}
+"#;
+    compile_as_c_and_cpp("names-of-groups", text);
 }
 
 #[test]

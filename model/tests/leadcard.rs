@@ -127,6 +127,19 @@ ssize_t read(int file, void *bytes, size_t count) {
 }
 "#;
 
+/// What the program prints, and what it tells, in a folder whose text can be read up to this many bytes.
+fn with_failing_read(folder: &Folder, bytes: usize) -> (Vec<u8>, String) {
+    let (source, library) = (folder.write("read.c", FAILING_READ.as_bytes()), folder.path().join("read.so"));
+    let built = Command::new("cc")
+        .args(["-O2", "-shared", "-fPIC", "-DPIECE=512", &format!("-DBYTES={bytes}"), "-o"])
+        .args([&library, &source])
+        .status();
+    assert!(built.expect("cc runs").success());
+    let output = LEADCARD.command().current_dir(folder.path()).env("LD_PRELOAD", &library).output();
+    let output = output.expect("the program runs");
+    (output.stdout, String::from_utf8(output.stderr).expect("text"))
+}
+
 /// A read that fails within a row: the rows before it are printed, the row that is cut is not, and standard error has the reason.
 #[test]
 fn a_read_that_fails_cuts_no_row() {
@@ -135,18 +148,25 @@ fn a_read_that_fails_cuts_no_row() {
     let (site, book) = (published::site(), curves::book());
     let folder = card("failing-read", Some(&site), Some(&book), Some(text.as_bytes()));
     let first = card_printout(&site, &book, whole.as_bytes());
-    let (source, library) = (folder.path().join("read.c"), folder.path().join("read.so"));
-    fs::write(&source, FAILING_READ).expect("the source is written");
     for bytes in [whole.len() + cut.len(), whole.len() + cut.len() - 1, whole.len() + 1] {
-        let built = Command::new("cc")
-            .args(["-O2", "-shared", "-fPIC", "-DPIECE=512", &format!("-DBYTES={bytes}"), "-o"])
-            .args([&library, &source])
-            .status();
-        assert!(built.expect("cc runs").success());
-        let output = LEADCARD.command().current_dir(folder.path()).env("LD_PRELOAD", &library).output();
-        let output = output.expect("the program runs");
-        assert_eq!(String::from_utf8_lossy(&output.stdout), String::from_utf8_lossy(&first), "{bytes}");
-        assert_eq!(String::from_utf8_lossy(&output.stderr), "leadcard: Input/output error\n", "{bytes}");
+        let (printed, told) = with_failing_read(&folder, bytes);
+        assert_eq!(String::from_utf8_lossy(&printed), String::from_utf8_lossy(&first), "{bytes}");
+        assert_eq!(told, "leadcard: Input/output error\n", "{bytes}");
+    }
+}
+
+/// The same with as many rows before the cut as fill a group, or a row less or more: none of them is lost.
+#[test]
+fn a_read_that_fails_behind_a_group_loses_no_row() {
+    let (site, book) = (published::site(), curves::book());
+    for rows in [1, 63, 64, 65, 130] {
+        let whole = format!("{HEADINGS}{}", format!("{ROW}\n").repeat(rows));
+        let text = format!("{whole}A2 1 1 1 200 150 * * * * 30 30\n{ROW}\n");
+        let folder = card(&format!("failing-group-{rows}"), Some(&site), Some(&book), Some(text.as_bytes()));
+        let due = card_printout(&site, &book, whole.as_bytes());
+        let (printed, told) = with_failing_read(&folder, whole.len() + 20);
+        assert_eq!(String::from_utf8_lossy(&printed), String::from_utf8_lossy(&due), "{rows} rows");
+        assert_eq!(told, "leadcard: Input/output error\n", "{rows} rows");
     }
 }
 
@@ -518,6 +538,99 @@ fn a_long_survey() {
         })
         .collect();
     compare_rows("long-survey", &rows);
+}
+
+/// Rows of every kind, this many, the kinds by turns: what they print tells one from its neighbours.
+fn mixed_rows(count: usize) -> Vec<Vec<u8>> {
+    let kind = |turn: usize| match turn % 7 {
+        0 => row(1 + turn % 3, &(100 + 50 * turn).to_string()),
+        1 => b"A1 1 1 * 200 150 * * * * * *".to_vec(),
+        2 => row(1, &(20_100 - 100 * turn).to_string()),
+        3 => Vec::new(),
+        4 => row(12, "50000.1"),
+        5 => row(1, "50000"),
+        _ => row(2, &(40 * turn).to_string()),
+    };
+    (0..count).map(kind).collect()
+}
+
+/// Cards of as many rows as fill groups of 64, or some less or more; with a last line feed and without.
+#[test]
+fn cards_of_whole_groups_and_of_parts() {
+    for count in [0, 1, 2, 63, 64, 65, 127, 128, 129, 200] {
+        let printed = compare_rows("groups", &mixed_rows(count));
+        assert_eq!(printed.len(), count);
+        let mut rows = mixed_rows(count);
+        if let Some(last) = rows.last_mut() {
+            *last = ROW.as_bytes().to_vec();
+        }
+        let text = [HEADINGS.as_bytes(), &rows.join(&b'\n')].concat();
+        assert_eq!(compare_text("groups-no-end", &text).lines().count(), count);
+    }
+    // Empty lines alone are rows.
+    for count in [63, 64, 65, 128, 200] {
+        let text = format!("{HEADINGS}{}", "\n".repeat(count));
+        assert_eq!(compare_text("groups-empty", text.as_bytes()), "refused 12\n".repeat(count));
+    }
+}
+
+/// Rows longer than a piece of what is read at once, on both sides of a group's end, running and refused.
+#[test]
+fn long_rows_at_the_end_of_a_group() {
+    let wide = |length: usize| {
+        let spaces = " ".repeat(length - ROW.len());
+        [format!("{spaces}{ROW}"), format!("{ROW}{spaces}"), ROW.replacen(' ', &format!(" {spaces}"), 1)]
+    };
+    for length in [511, 512, 513, 1_024, 1_537, 10_000] {
+        for (turn, long) in wide(length).into_iter().enumerate() {
+            let mut rows = mixed_rows(130);
+            for at in [62, 63, 64, 65, 127, 128] {
+                rows[at] = long.clone().into_bytes();
+            }
+            let printed = compare_rows("long-at-group", &rows);
+            let blood = printed[63].clone();
+            assert!(blood.contains('.'), "{length}, {turn}: {blood}");
+            assert!([62, 64, 65, 127, 128].iter().all(|&at| printed[at] == blood), "{length}, {turn}");
+            // Without a last line feed, the group's last row being the card's.
+            let text = [HEADINGS.as_bytes(), &rows[..64].join(&b'\n')].concat();
+            assert!(compare_text("long-last-of-group", &text).ends_with(&format!("{blood}\n{blood}\n")));
+        }
+        let mut rows = mixed_rows(130);
+        for (at, byte) in [(62, b"1"), (63, b" "), (64, b"1"), (127, b"x"), (128, b" ")] {
+            rows[at] = byte.repeat(length);
+        }
+        let printed = compare_rows("long-refused-at-group", &rows);
+        assert!([62, 63, 64, 127, 128].iter().all(|&at| printed[at] == "refused 12"), "{length}");
+    }
+}
+
+/// Every group of a card with a refused file prints its number, and so does a part of one.
+#[test]
+fn refused_files_in_every_group() {
+    let (site, mut book) = (published::site(), curves::book());
+    book[16 * 512 + 100] ^= 1;
+    for count in [1, 64, 65, 130] {
+        let text = [HEADINGS.as_bytes(), &mixed_rows(count).join(&b'\n'), b"\n"].concat();
+        let printed = compare("groups-refused", Some(&site), Some(&book), Some(&text));
+        assert_eq!(printed, "refused 3\n".repeat(count));
+        let printed = compare("groups-no-book", Some(&site), None, Some(&text));
+        assert_eq!(printed, "refused 1\n".repeat(count));
+    }
+}
+
+/// A text that comes in two parts, cut before, in and behind the line feed that ends a group.
+#[test]
+fn a_text_cut_at_the_end_of_a_group() {
+    let (site, book) = (published::site(), curves::book());
+    let rows = mixed_rows(66).join(&b'\n');
+    let text = [HEADINGS.as_bytes(), &rows, b"\n"].concat();
+    let group = HEADINGS.len() + mixed_rows(64).iter().map(|row| row.len() + 1).sum::<usize>();
+    for first in [group - 2, group - 1, group, group + 1] {
+        let folder = card(&format!("pipe-group-{first}"), Some(&site), Some(&book), None);
+        let writer = pipe(&folder, "card.txt", &text, first);
+        LEADCARD.compare(folder.path(), &card_printout(&site, &book, &text), "a group in two parts");
+        writer.join().expect("the text was written whole");
+    }
 }
 
 #[test]

@@ -16,9 +16,13 @@ use jurengate_model::cards::{curves, foods_file, published};
 use stack_bounds::{CARDS_STACK_BOUNDS, STACK_BOUNDS};
 use std::process::Command;
 
-/// Stack that no call may reach, a quarter of the box's memory.
+/// Stack that no call may reach, a quarter of the box's memory; the group has a limit of its own.
 const BOX_STACK: usize = 16 * 1024;
-/// The book's table, which a run and a row keep on their stack: a smaller figure measures nothing.
+/// The group's: half of the box's memory. A group is a desktop's job first, but it fits the box beside its files.
+const BOX_GROUP_STACK: usize = 32 * 1024;
+/// The call that has the group's limit.
+const GROUP: &str = "card_group";
+/// The book's table, which a run, a row and a group keep on their stack: a smaller figure measures nothing.
 const TABLE_BYTES: usize = 4 * BOOK_ROWS * ROW_FIELDS;
 
 /// The calls of both libraries with their bounds.
@@ -61,14 +65,21 @@ fn every_call_keeps_to_its_stack() {
             "jurengate_{name} has grown: it took {bytes} bytes of stack and may take {bound}"
         );
     }
-    for (name, bytes, _) in calls.iter().filter(|(name, ..)| name.starts_with("run") || name == "card_row") {
+    let keeps_table = |name: &str| name.starts_with("run") || name.starts_with("card_");
+    for (name, bytes, _) in calls.iter().filter(|(name, ..)| keeps_table(name)) {
         assert!(*bytes >= TABLE_BYTES, "the {name} took {bytes} bytes of stack, less than its table");
     }
 }
 
 #[test]
 fn no_bound_reaches_a_quarter_of_the_box() {
-    for (name, bound) in bounds() {
+    for (name, bound) in bounds().into_iter().filter(|(name, _)| *name != GROUP) {
         assert!(bound < BOX_STACK, "{name}");
     }
+}
+
+#[test]
+fn the_group_s_bound_stays_below_half_of_the_box() {
+    let bound = bounds().into_iter().find(|(name, _)| *name == GROUP).expect("the group has a bound").1;
+    assert!(bound < BOX_GROUP_STACK, "{bound}");
 }

@@ -6,6 +6,7 @@
 
 use jurengate_model::cards::{self, curves, published};
 use jurengate_model::console::{asks_for_help, ended, misused, print, words};
+use jurengate_model::group::{kind, GROUP_ANSWERS, GROUP_ROWS};
 use jurengate_model::kinetics::{DAY_STEPS, MONTH_DAYS};
 use jurengate_model::refusal::ACCEPTED;
 use jurengate_model::state::{State, MONTHS};
@@ -24,8 +25,12 @@ usage: bench          times the engine beside plain Rust and prints their ratios
 
 /// Lots per line.
 const LOTS: usize = 1_000;
+/// Lots per line at least, if each lasts long.
+const LOTS_LEAST: usize = 50;
 /// About how long a lot lasts: shorter than what a busy machine leaves undisturbed.
 const LOT_TIME: Duration = Duration::from_millis(1);
+/// About how long a line lasts at most.
+const LINE_TIME: Duration = Duration::from_secs(6);
 
 /// Seconds that `times` calls take.
 fn lot(times: u32, work: &mut dyn FnMut()) -> f64 {
@@ -49,7 +54,11 @@ fn lot_size(work: &mut dyn FnMut()) -> u32 {
 fn fastest<const N: usize>(mut works: [&mut dyn FnMut(); N]) -> [f64; N] {
     let times = works.iter_mut().map(|work| lot_size(work)).max().unwrap_or(1);
     let mut fastest = [f64::INFINITY; N];
-    for _ in 0..LOTS {
+    let start = Instant::now();
+    for done in 0..LOTS {
+        if done >= LOTS_LEAST && start.elapsed() > LINE_TIME {
+            break;
+        }
         for (least, work) in fastest.iter_mut().zip(&mut works) {
             *least = least.min(lot(times, work));
         }
@@ -150,6 +159,38 @@ fn bench_rows(site: &[u8], book: &[u8]) -> io::Result<()> {
     Ok(())
 }
 
+/// Times full groups, beside a program that runs the same rows one by one over a book decoded anew for each.
+fn bench_groups(site: &[u8], book: &[u8]) -> io::Result<()> {
+    let (site, book) = (black_box(site), black_box(book));
+    let ages: [(&str, fn(usize) -> usize); 3] = [
+        ("a group of 64 rows of AGE 1", |_| 1),
+        ("a group of 64 rows of AGE 84", |_| MONTHS),
+        ("a group of 64 rows of all ages", |turn| 1 + 37 * turn % MONTHS),
+    ];
+    for (what, age) in ages {
+        let rows: Vec<Vec<u8>> = (0..GROUP_ROWS).map(|turn| row(age(turn))).collect();
+        let text = rows.join(&b'\n');
+        let text = black_box(text.as_slice());
+        let (mut engine_list, mut rust_list) = ([0; GROUP_ANSWERS], [0; GROUP_ANSWERS]);
+        let answer = ffi::card_group(site, None, book, text, &mut engine_list);
+        assert_eq!(answer.rows, fast::rows_one_by_one(site, None, book, text, &mut rust_list));
+        assert_eq!((engine_list, answer.rows as usize), (rust_list, GROUP_ROWS));
+        assert!(engine_list.chunks_exact(2).all(|pair| pair[0] == kind::BLOOD));
+        let mut engine = || {
+            black_box(ffi::card_group(site, None, book, text, &mut engine_list));
+        };
+        let mut rust = || {
+            black_box(fast::rows_one_by_one(site, None, book, text, &mut rust_list));
+        };
+        let [engine, rust] = fastest([&mut engine, &mut rust]);
+        let told = |seconds: f64| {
+            format!("{:.1} µs ({:.0} rows a second)", 1e6 * seconds, GROUP_ROWS as f64 / seconds)
+        };
+        print(format!("{what}: engine {}, Rust {}, ratio {:.2}\n", told(engine), told(rust), engine / rust))?;
+    }
+    Ok(())
+}
+
 /// Times everything, up to a reader's end.
 fn bench() -> io::Result<()> {
     let (site, book) = (published::site(), curves::book());
@@ -178,7 +219,8 @@ fn bench() -> io::Result<()> {
     compare("reading both files", &mut || engine_month(&last), &mut || rust_month(&last))?;
     compare_steps(&engine_month, &rust_month, &middle, &last)?;
     bench_foods(&site, &book, &middle)?;
-    bench_rows(&site, &book)
+    bench_rows(&site, &book)?;
+    bench_groups(&site, &book)
 }
 
 fn main() -> ExitCode {

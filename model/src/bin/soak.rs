@@ -1,8 +1,8 @@
 //! Random cards, whole and damaged, run by the engine and by the model.
 //!
 //! Each card's book is read, and its foods block if it has one; then the card is run in one call and lived
-//! again month by month, and some rows of a batch card are run over it. The engine must give the model's answers,
-//! and the same figures and last state both ways. Seed and number of a card make it, so that other seeds are other cards and one can be repeated alone.
+//! again month by month, and some rows of a batch card are run over it, one by one and as a group. The engine must give
+//! the model's answers, and the same figures and last state both ways. Seed and number of a card make it, so that other seeds are other cards and one can be repeated alone.
 
 use jurengate_model::book::{self, BOOK_ROWS, ROW_FIELDS};
 use jurengate_model::card;
@@ -10,6 +10,7 @@ use jurengate_model::console::{asks_for_help, ended, misused, print, words};
 use jurengate_model::engine::{self, RunAnswer};
 use jurengate_model::ffi;
 use jurengate_model::foods;
+use jurengate_model::group::{self, kind, GROUP_ANSWERS};
 use jurengate_model::random::{self, Generator};
 use jurengate_model::refusal::number_of;
 use jurengate_model::state::MONTHS;
@@ -44,7 +45,7 @@ const BEFORE: u32 = 0x5EED_5EED;
 /// One past the highest refusal number.
 const NUMBERS: usize = 23;
 
-/// Rows that are run over each card.
+/// Rows that are run over each card by themselves.
 const ROWS: usize = 4;
 
 /// What was compared so far.
@@ -62,6 +63,9 @@ struct Tally {
     rows: u64,
     accepted_rows: u64,
     skipped_rows: u64,
+    groups: u64,
+    group_rows: u64,
+    group_bloods: u64,
 }
 
 impl Tally {
@@ -80,6 +84,10 @@ impl Tally {
         lines.push(format!(
             "{} rows of batch cards compared, {} of them with a blood figure, {} skipped",
             self.rows, self.accepted_rows, self.skipped_rows
+        ));
+        lines.push(format!(
+            "{} groups of rows compared, {} rows in them, {} of them with a blood figure",
+            self.groups, self.group_rows, self.group_bloods
         ));
         lines.push(format!("no mismatch, {:.0} s\n", started.elapsed().as_secs_f64()));
         lines.join("\n")
@@ -187,6 +195,22 @@ fn rows((site, foods, book): &Card, generator: &mut Generator, tally: &mut Tally
     Ok(())
 }
 
+/// A group of rows over a card, held to the model's with its whole lent list; one in sixteen is a full one.
+fn group((site, foods, book): &Card, generator: &mut Generator, tally: &mut Tally) -> Result<(), String> {
+    let (range, full) = (random::range(generator), generator.once_in(16));
+    let rows = if full { generator.between(62, 67) as usize } else { generator.index(6) };
+    let text = random::group_text(generator, range, rows);
+    let (mut list, mut due_list) = ([BEFORE; GROUP_ANSWERS], [BEFORE; GROUP_ANSWERS]);
+    let due = group::card_group(site, foods.as_deref(), book, &text, &mut due_list);
+    let answer = held("group", ffi::card_group(site, foods.as_deref(), book, &text, &mut list), due)?;
+    held("the group's answers", list, due_list)?;
+    tally.groups += 1;
+    tally.group_rows += u64::from(answer.rows);
+    let pairs = list.chunks_exact(2).take(answer.rows as usize);
+    tally.group_bloods += pairs.filter(|pair| pair[0] == kind::BLOOD).count() as u64;
+    Ok(())
+}
+
 /// One card both ways, and rows over it.
 fn soak(seed: u32, number: u32, tally: &mut Tally) -> Result<(), String> {
     let mut generator = Generator::of_card(seed, number);
@@ -206,7 +230,8 @@ fn soak(seed: u32, number: u32, tally: &mut Tally) -> Result<(), String> {
     if list.len() == MONTHS {
         held("month by month and run", (lived, figures), (whole, list))?;
     }
-    rows(&card, &mut generator, tally)
+    rows(&card, &mut generator, tally)?;
+    group(&card, &mut generator, tally)
 }
 
 /// A word of the command line as a number from `least` up.

@@ -16,4 +16,7 @@ pub const STACK_BOUNDS: [(&str, usize); 10] = [
 ];
 
 /// The same for the calls of the second library.
-pub const CARDS_STACK_BOUNDS: [(&str, usize); 1] = [("card_row", 12_100)];
+pub const CARDS_STACK_BOUNDS: [(&str, usize); 2] = [("card_row", 12_100), ("card_group", GROUP_STACK_BOUND)];
+
+/// The group's own: not measured yet, but a placeholder just below half of the box's memory.
+pub const GROUP_STACK_BOUND: usize = 32_000;
