@@ -24,6 +24,8 @@ uint32_t __real_jurengate_run_foods(const uint8_t *, size_t, const uint8_t *, si
 
 uint32_t __real_jurengate_card_row(const uint8_t *, size_t, bool, const uint8_t *, size_t, const uint8_t *, size_t, const uint8_t *,
                                    size_t, uint32_t *, bool *);
+uint32_t __real_jurengate_card_group(const uint8_t *, size_t, bool, const uint8_t *, size_t, const uint8_t *, size_t, const uint8_t *,
+                                     size_t, uint32_t *, uint32_t *, size_t *);
 
 /* Where a foods block has the lead of candy and the share of fish, whose neighbour is that of game. */
 enum { CANDY_LEAD_AT = 230, FISH_SHARE_AT = 282, FIELD_BYTES = 4 };
@@ -188,6 +190,29 @@ uint32_t __wrap_jurengate_card_row(const uint8_t *site, size_t site_len, bool ha
                                          skipped); /* the site file's diet in spite of the foods */
     }
     return number;
+}
+
+uint32_t __wrap_jurengate_card_group(const uint8_t *site, size_t site_len, bool has_foods, const uint8_t *foods, size_t foods_len,
+                                     const uint8_t *book, size_t book_len, const uint8_t *rows, size_t rows_len, uint32_t *answers,
+                                     uint32_t *decodes, size_t *next) {
+    uint32_t taken = __real_jurengate_card_group(site, site_len, has_foods, foods, foods_len, book, book_len, rows, rows_len, answers,
+                                                 decodes, next);
+    if (fault_is(18) && *next < rows_len) {
+        ++*next; /* the 65th row one byte too far */
+    }
+    if (fault_is(19) && taken > 1 && answers[2 * taken - 2] == JURENGATE_GROUP_BLOOD) {
+        memcpy(&answers[2 * taken - 2], &answers[2 * taken - 4], 2 * sizeof *answers); /* the answer of the row before */
+    }
+    if (fault_is(20) && *decodes > 0) {
+        *decodes = JURENGATE_BOOK_BLOCKS; /* as if a refused book had been read to its end */
+    }
+    if (fault_is(21) && taken == JURENGATE_GROUP_ROWS - 1) {
+        answers[2 * taken] = 0; /* a place behind the last row */
+    }
+    if (fault_is(22) && rows_len > 0 && rows[rows_len - 1] == '\n' && taken < JURENGATE_GROUP_ROWS) {
+        sink = rows[rows_len]; /* reads one byte past a text that ends in a line feed */
+    }
+    return taken;
 }
 
 #pragma clang attribute pop

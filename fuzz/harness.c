@@ -12,7 +12,7 @@
 #include "jurengate.h"
 #include "jurengate_cards.h"
 
-enum memory { SITE, FOODS, BOOK, STATE, LIST, FIGURE, ROW, FLAG, MEMORIES };
+enum memory { SITE, FOODS, BOOK, STATE, LIST, FIGURE, TEXT, FLAG, NEXT, MEMORIES };
 
 enum { PAGE = 4096, OPEN_BYTES = 3 * PAGE, PAINT = 0xA5, FILLER = 0x5A };
 
@@ -30,11 +30,11 @@ static struct lent lent[MEMORIES];
 static uint8_t paint[OPEN_BYTES];
 static struct fuzz_case asked;
 
-static const char *const call_names[CALLS] = {"read_site",  "read_book",   "write_block", "birth",    "month", "run",
-                                              "read_foods", "birth_foods", "month_foods", "run_foods", "card_row"};
-static const char *const memory_names[MEMORIES] = {"site", "foods", "book", "state", "list", "figure", "row", "flag"};
+static const char *const call_names[CALLS] = {"read_site",   "read_book",   "write_block", "birth",    "month",     "run",
+                                              "read_foods",  "birth_foods", "month_foods", "run_foods", "card_row", "card_group"};
+static const char *const memory_names[MEMORIES] = {"site", "foods", "book", "state", "list", "figure", "text", "flag", "next"};
 
-/* The numbers that each call can answer, a bit for each. */
+/* The numbers that each call, or a row of a group, can answer, a bit for each. */
 #define BIT(number) (1u << JURENGATE_##number)
 #define LENGTH_NUMBERS (BIT(ACCEPTED) | BIT(WRONG_LENGTH))
 #define BLOCK_NUMBERS \
@@ -44,6 +44,7 @@ static const char *const memory_names[MEMORIES] = {"site", "foods", "book", "sta
 #define BIRTH_NUMBERS (FILE_NUMBERS | BIT(BURDEN_TOO_LARGE))
 #define MONTH_NUMBERS (BIRTH_NUMBERS | BIT(INTAKE_TOO_LARGE) | BIT(NO_STATE) | BIT(LAST_MONTH_DONE))
 #define RUN_NUMBERS (BIRTH_NUMBERS | BIT(WRONG_LIST_LENGTH) | BIT(INTAKE_TOO_LARGE))
+#define ROW_NUMBERS (BIRTH_NUMBERS | FOODS_NUMBERS | BIT(INTAKE_TOO_LARGE) | BIT(CARD_TEXT_WRONG))
 static const uint32_t answerable[CALLS] = {
     [READ_SITE] = BLOCK_NUMBERS | BIT(FIELD_OUTSIDE_LIMITS),
     [READ_BOOK] = BLOCK_NUMBERS | BIT(ROW_OUTSIDE_LIMITS),
@@ -55,13 +56,16 @@ static const uint32_t answerable[CALLS] = {
     [BIRTH_FOODS] = BIRTH_NUMBERS | FOODS_NUMBERS,
     [MONTH_FOODS] = MONTH_NUMBERS | FOODS_NUMBERS,
     [RUN_FOODS] = RUN_NUMBERS | FOODS_NUMBERS,
-    [CARD_ROW] = BIRTH_NUMBERS | FOODS_NUMBERS | BIT(INTAKE_TOO_LARGE) | BIT(CARD_TEXT_WRONG),
+    [CARD_ROW] = ROW_NUMBERS,
+    [CARD_GROUP] = ROW_NUMBERS,
 };
 
-static uint64_t met[CALLS][NUMBERS], rows_skipped;
+static uint64_t compared, met[CALLS][NUMBERS], skipped[CALLS], groups[JURENGATE_GROUP_ROWS + 1], decoded[JURENGATE_BOOK_BLOCKS + 1];
 
 /* What the engine answers guides the fuzzer too. */
 __attribute__((section("__libfuzzer_extra_counters"))) static uint8_t seen[CALLS][NUMBERS][JURENGATE_MONTHS + 1];
+__attribute__((section("__libfuzzer_extra_counters"))) static uint8_t seen_groups[JURENGATE_GROUP_ROWS + 1];
+__attribute__((section("__libfuzzer_extra_counters"))) static uint8_t seen_decodes[JURENGATE_BOOK_BLOCKS + 1];
 
 struct calls {
     uint32_t (*read_site)(const uint8_t *, size_t, uint32_t *);
@@ -77,14 +81,16 @@ struct calls {
                           uint32_t *);
     uint32_t (*card_row)(const uint8_t *, size_t, bool, const uint8_t *, size_t, const uint8_t *, size_t, const uint8_t *, size_t,
                          uint32_t *, bool *);
+    uint32_t (*card_group)(const uint8_t *, size_t, bool, const uint8_t *, size_t, const uint8_t *, size_t, const uint8_t *, size_t,
+                           uint32_t *, uint32_t *, size_t *);
 };
 
 static const struct calls engine = {jurengate_read_site,   jurengate_read_book,   jurengate_write_block, jurengate_birth,
                                     jurengate_month,       jurengate_run,         jurengate_read_foods,  jurengate_birth_foods,
-                                    jurengate_month_foods, jurengate_run_foods,   jurengate_card_row};
+                                    jurengate_month_foods, jurengate_run_foods,   jurengate_card_row,    jurengate_card_group};
 static const struct calls model = {model_read_site, model_read_book,  model_write_block, model_birth,       model_month,
                                    model_run,       model_read_foods, model_birth_foods, model_month_foods, model_run_foods,
-                                   model_card_row};
+                                   model_card_row,  model_card_group};
 
 static uint32_t answer(const struct calls *by, uint8_t *const at[MEMORIES]) {
     const uint8_t *site = at[SITE], *foods = at[FOODS], *book = at[BOOK];
@@ -104,8 +110,11 @@ static uint32_t answer(const struct calls *by, uint8_t *const at[MEMORIES]) {
     case RUN_FOODS:
         return by->run_foods(site, site_len, foods, foods_len, book, book_len, list, asked.list_len, state, figure);
     case CARD_ROW:
-        return by->card_row(site, site_len, asked.has_foods, foods, foods_len, book, book_len, at[ROW], asked.row_len, figure,
+        return by->card_row(site, site_len, asked.has_foods, foods, foods_len, book, book_len, at[TEXT], asked.text_len, figure,
                             (bool *)at[FLAG]);
+    case CARD_GROUP:
+        return by->card_group(site, site_len, asked.has_foods, foods, foods_len, book, book_len, at[TEXT], asked.text_len, list,
+                              figure, (size_t *)at[NEXT]);
     }
     abort();
 }
@@ -119,6 +128,7 @@ static size_t list_bytes(void) {
     case READ_SITE: return JURENGATE_SITE_FIELDS * sizeof(uint32_t);
     case READ_BOOK: return JURENGATE_TABLE_NUMBERS * sizeof(uint32_t);
     case READ_FOODS: return JURENGATE_FOODS_FIGURES * sizeof(uint32_t);
+    case CARD_GROUP: return JURENGATE_GROUP_ANSWERS * sizeof(uint32_t);
     default: return is_run() ? asked.list_len * sizeof(uint32_t) : asked.list_len;
     }
 }
@@ -144,8 +154,9 @@ static void lend_all(void) {
     lend(STATE, is_month() ? asked.state : NULL, sizeof asked.state);
     lend(LIST, NULL, list_bytes());
     lend(FIGURE, NULL, sizeof(uint32_t));
-    lend(ROW, asked.row, asked.row_len);
+    lend(TEXT, asked.text, asked.text_len);
     lend(FLAG, NULL, sizeof(bool));
+    lend(NEXT, NULL, sizeof(size_t));
 }
 
 static void fail(const char *what, const char *where) {
@@ -165,34 +176,82 @@ static void hold(enum memory which) {
     }
 }
 
+/* Whether a call, or a row of a group, can answer this number. */
+static void hold_number(uint32_t number) {
+    if (number >= NUMBERS || !(answerable[asked.call] >> number & 1)) {
+        fail("is none that the call can answer", "the refusal number");
+    }
+}
+
+/* The numbers of a group's rows are looked at one by one. */
+static void count_group(uint32_t taken) {
+    uint32_t answers[JURENGATE_GROUP_ANSWERS], decodes;
+    memcpy(answers, lent[LIST].due, sizeof answers);
+    memcpy(&decodes, lent[FIGURE].due, sizeof decodes);
+    if (taken > JURENGATE_GROUP_ROWS || decodes > JURENGATE_BOOK_BLOCKS) {
+        fail("is none that the call can answer", "a count");
+    }
+    groups[taken]++;
+    decoded[decodes]++;
+    seen_groups[taken]++;
+    seen_decodes[decodes]++;
+    for (uint32_t row = 0; row < taken; row++) {
+        uint32_t kind = answers[2 * row], number = kind == JURENGATE_GROUP_REFUSED ? answers[2 * row + 1] : JURENGATE_ACCEPTED;
+        hold_number(number);
+        skipped[CARD_GROUP] += kind == JURENGATE_GROUP_SKIPPED;
+        met[CARD_GROUP][number]++;
+        seen[CARD_GROUP][number][kind]++;
+    }
+}
+
 static void count(uint32_t number) {
     uint32_t months = 0;
+    compared++;
+    if (asked.call == CARD_GROUP) {
+        count_group(number);
+        return;
+    }
+    hold_number(number);
     if (is_run()) {
         memcpy(&months, lent[FIGURE].due, sizeof months);
     } else if (is_month() && number != JURENGATE_NO_STATE) {
         months = (uint32_t)asked.state[JURENGATE_STATE_MONTH] % (JURENGATE_MONTHS + 1);
     } else if (asked.call == CARD_ROW) {
         months = lent[FLAG].due[0]; /* skipped or not */
-        rows_skipped += months;
+        skipped[CARD_ROW] += months;
     }
     met[asked.call][number]++;
     seen[asked.call][number][months]++;
 }
 
+static void print_count(uint64_t times) { printf(" %llu%s", (unsigned long long)times, times ? "" : " NOT MET"); }
+
 static void print_counts(void) {
-    uint64_t calls = 0;
     for (int call = 0; call < CALLS; call++) {
-        printf("%s:", call_names[call]);
+        printf(call == CARD_GROUP ? "%s, by rows:" : "%s:", call_names[call]);
         for (int number = 0; number < NUMBERS; number++) {
-            calls += met[call][number];
             if (answerable[call] >> number & 1) {
-                printf(" %d: %llu%s", number, (unsigned long long)met[call][number], met[call][number] ? "" : " NOT MET");
+                printf(" %d:", number);
+                print_count(met[call][number]);
             }
         }
         printf("\n");
     }
-    printf("card_row skipped: %llu%s\n", (unsigned long long)rows_skipped, rows_skipped ? "" : " NOT MET");
-    printf("%llu calls compared\n", (unsigned long long)calls);
+    for (int call = CARD_ROW; call <= CARD_GROUP; call++) {
+        printf("%s skipped:", call_names[call]);
+        print_count(skipped[call]);
+        printf("\n");
+    }
+    printf("card_group, blocks decoded:");
+    for (int blocks = 0; blocks <= JURENGATE_BOOK_BLOCKS; blocks++) {
+        printf(" %d:", blocks);
+        print_count(decoded[blocks]);
+    }
+    printf("\ncard_group without rows:");
+    print_count(groups[0]);
+    printf(", of 64 rows:");
+    print_count(groups[JURENGATE_GROUP_ROWS]);
+    printf("\n%llu calls compared\n", (unsigned long long)compared);
     print_engine_code();
 }
 
@@ -222,13 +281,10 @@ int LLVMFuzzerTestOneInput(const uint8_t *input, size_t size) {
     }
     uint32_t number = answer(&engine, at);
     if (number != answer(&model, due)) {
-        fail("is not the model's", "the refusal number");
+        fail("is not the model's", asked.call == CARD_GROUP ? "the number of rows" : "the refusal number");
     }
     for (int which = 0; which < MEMORIES; which++) {
         hold(which);
-    }
-    if (number >= NUMBERS || !(answerable[asked.call] >> number & 1)) {
-        fail("is none that the call can answer", "the refusal number");
     }
     count(number);
     return 0;

@@ -5,6 +5,7 @@ use crate::tape::Tape;
 use jurengate_model::block::BLOCK_BYTES;
 use jurengate_model::card::field;
 use jurengate_model::cards;
+use jurengate_model::group::GROUP_ROWS;
 use jurengate_model::random::{self, Generator, Range, TextFault};
 use jurengate_model::state::{State, MONTHS};
 
@@ -16,6 +17,8 @@ const FOODS_ROOM: usize = 2 * BLOCK_BYTES;
 const BOOK_ROOM: usize = 19 * BLOCK_BYTES;
 /// Longest row that is lent.
 const ROW_ROOM: usize = 1024;
+/// Longest text of a group that is lent.
+const TEXT_ROOM: usize = 8192;
 /// From this first byte on, the bytes of an input stand for themselves.
 const RAW_FROM: u8 = 0xE0;
 /// Edits that one input may make.
@@ -36,6 +39,7 @@ enum Call {
     MonthFoods,
     RunFoods,
     CardRow,
+    CardGroup,
 }
 
 /// A run takes as long as 84 months, so it is drawn seldom.
@@ -43,9 +47,9 @@ const CALLS: [Call; 32] = {
     use Call::*;
     [
         Month, ReadSite, Birth, Month, WriteBlock, ReadBook, Birth, ReadSite, Month, Month, Birth, ReadBook,
-        Month, Run, CardRow, CardRow, MonthFoods, ReadFoods, BirthFoods, MonthFoods, MonthFoods, ReadFoods,
-        BirthFoods, MonthFoods, CardRow, CardRow, ReadFoods, MonthFoods, BirthFoods, RunFoods, CardRow,
-        CardRow,
+        Month, Run, CardRow, CardGroup, MonthFoods, ReadFoods, BirthFoods, MonthFoods, MonthFoods, ReadFoods,
+        BirthFoods, MonthFoods, CardRow, CardGroup, ReadFoods, MonthFoods, BirthFoods, RunFoods, CardRow,
+        CardGroup,
     ]
 };
 
@@ -73,9 +77,11 @@ pub struct Case {
     pub foods: Vec<u8>,
     /// The rate book.
     pub book: Vec<u8>,
-    /// The row of a batch card.
-    pub row: Vec<u8>,
-    /// Whether the row has the foods block beside it.
+    /// The row of a batch card, or the text of a group's rows.
+    pub text: Vec<u8>,
+    /// Whether the text is a group's.
+    pub is_group: bool,
+    /// Whether the row or the group has the foods block beside it.
     pub has_foods: bool,
     /// The state handed to the month call.
     pub state: State,
@@ -92,13 +98,13 @@ pub struct LentCase {
     site_len: usize,
     foods_len: usize,
     book_len: usize,
-    row_len: usize,
+    text_len: usize,
     list_len: usize,
     state: [u64; 11],
     site: [u8; SITE_ROOM],
     foods: [u8; FOODS_ROOM],
     book: [u8; BOOK_ROOM],
-    row: [u8; ROW_ROOM],
+    text: [u8; TEXT_ROOM],
 }
 
 /// Reads an input as a call.
@@ -113,16 +119,19 @@ pub unsafe extern "C" fn fuzz_case_of(input: *const u8, size: usize, lent: *mut 
     let form = tape.byte();
     let call = CALLS[usize::from(form) % CALLS.len()];
     lent.call = call as u32;
-    lent.sides = tape.byte().into();
-    let case = if form >= RAW_FROM { raw(&mut tape) } else { built(&mut tape) };
+    // There are more memories than a byte has bits: each bit is the side of two.
+    lent.sides = 0x101 * u32::from(tape.byte());
+    let is_group = call == Call::CardGroup;
+    let case = if form >= RAW_FROM { raw(&mut tape, is_group) } else { built(&mut tape, is_group) };
     lend(case, call, lent);
 }
 
 /// A card and a state chosen, then edited to the input's end.
-fn built(tape: &mut Tape) -> Case {
+fn built(tape: &mut Tape, is_group: bool) -> Case {
     let (site, foods, book) = card(tape);
-    let (state, row) = (state(tape), row(tape));
-    let mut case = Case { site, foods, book, row, has_foods: true, state, list_off: 0 };
+    let state = state(tape);
+    let text = if is_group { group(tape) } else { row(tape) };
+    let mut case = Case { site, foods, book, text, is_group, has_foods: true, state, list_off: 0 };
     for _ in 0..EDITS {
         if tape.is_spent() {
             break;
@@ -172,8 +181,26 @@ fn row(tape: &mut Tape) -> Vec<u8> {
     random::joined(&mut generator, &texts)
 }
 
+/// The text of a group: a few rows like the one above, or about as many as a group takes, most of them then short.
+fn group(tape: &mut Tape) -> Vec<u8> {
+    let (few, ends) = (tape.index(6), tape.byte());
+    let mut rows: Vec<Vec<u8>> = (0..few).map(|_| row(tape)).collect();
+    if ends & 1 == 1 {
+        let count = GROUP_ROWS - 3 + tape.index(6);
+        let short: [&[u8]; 3] = [b"", b"A1", b"A1 1 1 0 1 1 * * * * * *"];
+        let (first, mut filled) = (tape.index(2) == 0, Vec::new());
+        filled.extend((few..count).map(|turn| short[turn % short.len()].to_vec()));
+        rows = if first { [rows, filled].concat() } else { [filled, rows].concat() };
+    }
+    let mut text = rows.join(&b'\n');
+    if ends & 2 == 0 && !rows.is_empty() {
+        text.push(b'\n');
+    }
+    text
+}
+
 /// What is left of the input, cut in four; the blocks are sealed if it says so.
-fn raw(tape: &mut Tape) -> Case {
+fn raw(tape: &mut Tape, is_group: bool) -> Case {
     let seals = tape.byte();
     let list_off = tape.byte() as i8;
     let state = state(tape);
@@ -184,8 +211,8 @@ fn raw(tape: &mut Tape) -> Case {
         rest = behind;
         part.to_vec()
     };
-    let (row, site, foods, book) = (cut(lengths[2]), cut(lengths[0]), cut(lengths[1]), cut(usize::MAX));
-    let mut case = Case { site, foods, book, row, has_foods: seals & 8 == 0, state, list_off };
+    let (text, site, foods, book) = (cut(lengths[2]), cut(lengths[0]), cut(lengths[1]), cut(usize::MAX));
+    let mut case = Case { site, foods, book, text, is_group, has_foods: seals & 8 == 0, state, list_off };
     for (bit, file) in [(1, &mut case.site), (2, &mut case.book), (4, &mut case.foods)] {
         if seals & bit != 0 {
             file.chunks_exact_mut(BLOCK_BYTES).for_each(cards::seal);
@@ -201,7 +228,8 @@ fn lend(case: Case, call: Call, lent: &mut LentCase) {
     lent.site_len = copy(site, &mut lent.site);
     lent.foods_len = copy(&case.foods, &mut lent.foods);
     lent.book_len = copy(&case.book, &mut lent.book);
-    lent.row_len = copy(&case.row, &mut lent.row);
+    let room = if case.is_group { TEXT_ROOM } else { ROW_ROOM };
+    lent.text_len = copy(&case.text, &mut lent.text[..room]);
     lent.has_foods = case.has_foods;
     lent.list_len = list_due.saturating_add_signed(case.list_off.into());
     lent.state = case.state.to_numbers();

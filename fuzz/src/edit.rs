@@ -38,9 +38,9 @@ pub fn edit(tape: &mut Tape, case: &mut Case) {
         17 => edit_foods(tape, case, seal, put_food_figure),
         18 => edit_foods(tape, case, seal, put_shares),
         19 => edit_foods(tape, case, seal, break_diet),
-        20 => put_field_text(tape, case),
+        20 => edit_row(tape, case, put_field_text),
         21 => put_byte(tape, case),
-        22 => put_field_figure(tape, case),
+        22 => edit_row(tape, case, put_field_figure),
         _ => case.has_foods = tape.index(2) == 1,
     }
 }
@@ -253,39 +253,51 @@ const FIELD_TEXTS: [&[u8]; 16] = [
     b"    ",
 ];
 
+/// Edits the row, or one row of a group.
+fn edit_row(tape: &mut Tape, case: &mut Case, change: fn(&mut Tape, &mut Vec<u8>)) {
+    if !case.is_group {
+        return change(tape, &mut case.text);
+    }
+    let mut rows: Vec<Vec<u8>> = case.text.split(|&byte| byte == b'\n').map(<[u8]>::to_vec).collect();
+    let row = tape.index(rows.len().min(256));
+    change(tape, &mut rows[row]);
+    case.text = rows.join(&b'\n');
+}
+
 /// Other text for one field of the row: one of the list above, or something that is no figure.
-fn put_field_text(tape: &mut Tape, case: &mut Case) {
+fn put_field_text(tape: &mut Tape, row: &mut Vec<u8>) {
     let (field, which) = (tape.index(CARD_FIELDS), tape.index(FIELD_TEXTS.len() + random::NO_FIGURES.len()));
     let text = FIELD_TEXTS.iter().chain(&random::NO_FIGURES).nth(which).expect("one of both lists");
-    put_field(case, field, text);
+    put_field(row, field, text);
 }
 
 /// A figure for one field of the row, near a number at which a rule changes.
-fn put_field_figure(tape: &mut Tape, case: &mut Case) {
+fn put_field_figure(tape: &mut Tape, row: &mut Vec<u8>) {
     let (field, number, decimals) = (tape.index(CARD_FIELDS), tape.number(), tape.index(5));
     let figure = match decimals {
         0 => number.to_string(),
         _ => format!("{}.{:0>decimals$}", number / 1_000, number % 10u64.pow(decimals as u32)),
     };
-    put_field(case, field, figure.as_bytes());
+    put_field(row, field, figure.as_bytes());
 }
 
 /// The row with one field changed, if it has that field.
-fn put_field(case: &mut Case, field: usize, text: &[u8]) {
-    let mut fields = card::fields(&case.row);
+fn put_field(row: &mut Vec<u8>, field: usize, text: &[u8]) {
+    let mut fields = card::fields(row);
     if let Some(old) = fields.get_mut(field) {
         *old = text;
     }
-    case.row = fields.join(&b' ');
+    *row = fields.join(&b' ');
 }
 
-/// A byte of the row turned, put in or taken out.
+/// A byte of the row, or of a group's text, turned, put in or taken out.
 fn put_byte(tape: &mut Tape, case: &mut Case) {
-    let (at, byte) = (usize::from(tape.byte()) % (case.row.len() + 1), tape.byte());
+    let (text, place) = (&mut case.text, if case.is_group { tape.word() } else { tape.byte().into() });
+    let (at, byte) = (usize::from(place) % (text.len() + 1), tape.byte());
     match tape.index(3) {
-        0 if at < case.row.len() => case.row[at] = byte,
-        1 if at < case.row.len() => drop(case.row.remove(at)),
-        _ => case.row.insert(at, byte),
+        0 if at < text.len() => text[at] = byte,
+        1 if at < text.len() => drop(text.remove(at)),
+        _ => text.insert(at, byte),
     }
 }
 

@@ -6,10 +6,11 @@
 
 use jurengate_model::book::{Table, BOOK_ROWS, ROW_FIELDS};
 use jurengate_model::foods::FOODS_FIGURES;
+use jurengate_model::group::GROUP_ANSWERS;
 use jurengate_model::refusal::number_of;
 use jurengate_model::site::SITE_FIELDS;
 use jurengate_model::state::State;
-use jurengate_model::{block, book, card, engine, foods, site};
+use jurengate_model::{block, book, card, engine, foods, group, site};
 use std::slice::{from_raw_parts, from_raw_parts_mut};
 
 /// Eleven numbers of a state.
@@ -190,4 +191,27 @@ pub unsafe extern "C" fn model_card_row(
     let answer = card::card_row(site, has_foods.then_some(foods), book, row);
     unsafe { (*blood, *skipped) = (answer.blood, answer.skipped.into()) };
     answer.number
+}
+
+/// The model's group of rows of a batch card.
+#[no_mangle]
+pub unsafe extern "C" fn model_card_group(
+    site: *const u8,
+    site_len: usize,
+    has_foods: bool,
+    foods: *const u8,
+    foods_len: usize,
+    book: *const u8,
+    book_len: usize,
+    rows: *const u8,
+    rows_len: usize,
+    answers: *mut [u32; GROUP_ANSWERS],
+    decodes: *mut u32,
+    next: *mut usize,
+) -> u32 {
+    let [site, foods, book] = unsafe { files([(site, site_len), (foods, foods_len), (book, book_len)]) };
+    let (rows, answers) = unsafe { (from_raw_parts(rows, rows_len), &mut *answers) };
+    let answer = group::card_group(site, has_foods.then_some(foods), book, rows, answers);
+    unsafe { (*decodes, *next) = (answer.decodes, answer.next) };
+    answer.rows
 }
