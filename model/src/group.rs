@@ -55,7 +55,7 @@ fn first_rows(text: &[u8]) -> (Vec<&[u8]>, usize) {
 
 /// A child of a group: on its way to its AGE, or at rest with its row's answer.
 enum Child {
-    Lives { site: Site, age: usize, state: State },
+    Lives { site: Box<Site>, age: usize, state: State },
     Rests(RowAnswer),
 }
 
@@ -67,7 +67,7 @@ impl Child {
             Ok(None) => return Child::Rests(RowAnswer::Skipped),
             Ok(Some(asked)) => asked,
         };
-        let site = files.site(&asked);
+        let site = Box::new(files.site(&asked));
         match newborn(&site, &files.book) {
             Err(refusal) => Child::Rests(RowAnswer::Refused(refusal)),
             Ok(state) => Child::Lives { site, age: asked.month, state },

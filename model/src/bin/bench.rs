@@ -2,7 +2,8 @@
 //!
 //! The two take turns in many small lots; each line gives the fastest lot of both, the
 //! one that nothing disturbed, and their ratio, engine over Rust. A step is too short to be
-//! called alone: it is what a month call takes beyond the reading, over the month's steps.
+//! called alone: it is what a month call takes beyond the reading, over the month's steps. A group of
+//! rows stands beside a program that runs them one by one, over a book decoded anew for each.
 
 use jurengate_model::cards::{self, curves, published};
 use jurengate_model::console::{asks_for_help, ended, misused, print, words};
@@ -162,13 +163,13 @@ fn bench_rows(site: &[u8], book: &[u8]) -> io::Result<()> {
 /// Times full groups, beside a program that runs the same rows one by one over a book decoded anew for each.
 fn bench_groups(site: &[u8], book: &[u8]) -> io::Result<()> {
     let (site, book) = (black_box(site), black_box(book));
-    let ages: [(&str, fn(usize) -> usize); 3] = [
-        ("a group of 64 rows of AGE 1", |_| 1),
-        ("a group of 64 rows of AGE 84", |_| MONTHS),
-        ("a group of 64 rows of all ages", |turn| 1 + 37 * turn % MONTHS),
+    let groups = [
+        ("a group of 64 rows of AGE 1", [1; GROUP_ROWS]),
+        ("a group of 64 rows of AGE 84", [MONTHS; GROUP_ROWS]),
+        ("a group of 64 rows of mixed ages", std::array::from_fn(|turn| 1 + 37 * turn % MONTHS)),
     ];
-    for (what, age) in ages {
-        let rows: Vec<Vec<u8>> = (0..GROUP_ROWS).map(|turn| row(age(turn))).collect();
+    for (what, ages) in groups {
+        let rows = ages.map(row);
         let text = rows.join(&b'\n');
         let text = black_box(text.as_slice());
         let (mut engine_list, mut rust_list) = ([0; GROUP_ANSWERS], [0; GROUP_ANSWERS]);
@@ -177,10 +178,10 @@ fn bench_groups(site: &[u8], book: &[u8]) -> io::Result<()> {
         assert_eq!((engine_list, answer.rows as usize), (rust_list, GROUP_ROWS));
         assert!(engine_list.chunks_exact(2).all(|pair| pair[0] == kind::BLOOD));
         let mut engine = || {
-            black_box(ffi::card_group(site, None, book, text, &mut engine_list));
+            black_box(ffi::card_group(site, None, book, text, black_box(&mut engine_list)));
         };
         let mut rust = || {
-            black_box(fast::rows_one_by_one(site, None, book, text, &mut rust_list));
+            black_box(fast::rows_one_by_one(site, None, book, text, black_box(&mut rust_list)));
         };
         let [engine, rust] = fastest([&mut engine, &mut rust]);
         let told = |seconds: f64| {
