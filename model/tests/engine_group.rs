@@ -647,3 +647,24 @@ fn any_bytes_as_a_text() {
         groups.call(&site, None, &book, &text);
     }
 }
+
+/// Files and text at any address, and one over another: they are only read.
+#[test]
+fn files_and_text_anywhere() {
+    let mut groups = Groups::new("files and text anywhere");
+    let (site, book, foods) = (published::site(), curves::book(), foods_file(&published::foods()));
+    let rows = text_of(&mixed_rows(66));
+    for shift in 0..9 {
+        let memory = [&vec![b'\n'; shift][..], &site, &foods, &book, &rows].concat();
+        let (site, rest) = memory[shift..].split_at(site.len());
+        let (foods, rest) = rest.split_at(foods.len());
+        let (book, rows) = rest.split_at(book.len());
+        for text in [rows, rest, &memory[..], site, &book[..700]] {
+            let (answer, _) = groups.call(site, Some(foods), book, text);
+            assert_eq!(answer.decodes, WHOLE);
+        }
+        // The foods block in the site's place, and the site in the book's.
+        assert_eq!(groups.call(foods, Some(foods), book, rows).0.decodes, 0);
+        assert_eq!(groups.call(site, Some(site), book, rows).0.decodes, 0);
+    }
+}

@@ -13,8 +13,8 @@ use jurengate_model::card::{card_printout, field};
 use jurengate_model::cards::{book_file, curves, published, site_file};
 use jurengate_model::printout::printout;
 use jurengate_model::random::{
-    self, any_row, break_texts, damaged, fault, field_texts, joined, row_faults, scratched, survey,
-    text_faults, Fault, FieldTexts, Generator, Intake, Range,
+    self, any_row, break_texts, damaged, fault, field_texts, group_text, joined, row_faults, scratched,
+    survey, text_faults, Fault, FieldTexts, Generator, Intake, Range,
 };
 use jurengate_model::site::{place, AGES, SATURATION_LEAST, SITE_FIELDS};
 use program::{make_pipe, pipe, Program};
@@ -508,6 +508,20 @@ fn random_surveys() {
         let rows = generator.index(30);
         let text = survey(&mut generator, range, rows);
         compare("random", Some(&site), Some(&book), Some(&text));
+    }
+}
+
+/// Random surveys of more rows than a group has.
+#[test]
+fn random_surveys_of_several_groups() {
+    let mut generator = Generator::new(406);
+    for turn in 0..12 {
+        let range = Range::of_turn(turn);
+        let (site, book) = (random::site(&mut generator, range), random::book(&mut generator, range));
+        let rows = generator.between(60, 200) as usize;
+        let text = [HEADINGS.as_bytes(), &group_text(&mut generator, range, rows)].concat();
+        let printed = compare("random-groups", Some(&site), Some(&book), Some(&text));
+        assert_eq!(printed.lines().count(), rows);
     }
 }
 
