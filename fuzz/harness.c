@@ -30,8 +30,8 @@ static struct lent lent[MEMORIES];
 static uint8_t paint[OPEN_BYTES];
 static struct fuzz_case asked;
 
-static const char *const call_names[CALLS] = {"read_site",   "read_book",   "write_block", "birth",    "month",     "run",
-                                              "read_foods",  "birth_foods", "month_foods", "run_foods", "card_row", "card_group"};
+static const char *const call_names[CALLS] = {"read_site",  "read_book",   "write_block", "birth",     "month",    "run",
+                                              "read_foods", "birth_foods", "month_foods", "run_foods", "card_row", "card_group"};
 static const char *const memory_names[MEMORIES] = {"site", "foods", "book", "state", "list", "figure", "text", "flag", "next"};
 
 /* The numbers that each call, or a row of a group, can answer, a bit for each. */

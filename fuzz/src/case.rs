@@ -188,9 +188,8 @@ fn group(tape: &mut Tape) -> Vec<u8> {
     if ends & 1 == 1 {
         let count = GROUP_ROWS - 3 + tape.index(6);
         let short: [&[u8]; 3] = [b"", b"A1", b"A1 1 1 0 1 1 * * * * * *"];
-        let (first, mut filled) = (tape.index(2) == 0, Vec::new());
-        filled.extend((few..count).map(|turn| short[turn % short.len()].to_vec()));
-        rows = if first { [rows, filled].concat() } else { [filled, rows].concat() };
+        let filled: Vec<Vec<u8>> = (few..count).map(|turn| short[turn % short.len()].to_vec()).collect();
+        rows = if tape.index(2) == 0 { [rows, filled].concat() } else { [filled, rows].concat() };
     }
     let mut text = rows.join(&b'\n');
     if ends & 2 == 0 && !rows.is_empty() {
