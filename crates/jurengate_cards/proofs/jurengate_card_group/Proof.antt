@@ -14,9 +14,7 @@ returns c =
     let read = c .answer-text .ensures in
     (
       ap (λ (r : GroupRead). r .rows) (read .0),
-      read .1,
-      ap (λ (r : GroupRead). r .decodes) (read .0),
-      ap (λ (r : GroupRead). r .next) (read .0),
+      (read .1, (ap (λ (r : GroupRead). r .decodes) (read .0), ap (λ (r : GroupRead). r .next) (read .0))),
     )
 
 pub jurengate-card-group-spec : {M : Type 1} → statement M
