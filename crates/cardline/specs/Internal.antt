@@ -1,18 +1,19 @@
--- For the contracts between the functions: the line of a row, put at the start of lent bytes. No open call's contract needs it.
+-- For the contracts between the functions: the lines of answers in words. No open call's contract needs it.
 -- Assumes nothing.
-use mathlib.Core.Path.{_≡_}
-use Prim.Native.Nat.{ℕ}
-use mathlib.Core.List.{List, [], _∷_, _++_}
-use lib.ListN.{length, drop}
-use Rattle.files.specs.Files.{Files}
-use Rattle.lines.specs.declared.RowText.{RowText}
-use Rattle.cardline.specs.Pieces.{keptLines}
+use Prim.Native.Nat.{ℕ, zero, suc, _*_}
+use mathlib.Core.List.{List, [], _++_}
+use Rattle.roll.specs.Words.{rowsAGroup}
+use Rattle.group.specs.Internal.{answerAt}
+use Rattle.cardline.specs.Cardline.{rowLine}
 
--- the bytes that every line fits in
+-- the bytes that every line fits in, and those of a group
 abbrev pub lineBytes : ℕ
 lineBytes = 19
 
--- the line of a row, at the start of lent bytes
-pub record KeptPut (f : Files) (kept : RowText) (before after : List ℕ) (bytes : ℕ) : Type 0 where
-  pub count : bytes ≡ length (keptLines f (kept ∷ []))
-  pub is : after ≡ keptLines f (kept ∷ []) ++ drop (length (keptLines f (kept ∷ []))) before
+abbrev pub groupBytes : ℕ
+groupBytes = lineBytes * rowsAGroup
+
+-- the lines of the first n answers
+unfoldable pub linesIn : ℕ → List ℕ → List ℕ
+linesIn zero answers = []
+linesIn (suc n) answers = linesIn n answers ++ rowLine (answerAt answers n)

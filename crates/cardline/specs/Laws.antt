@@ -1,27 +1,33 @@
 -- The laws of a card's printout.
 -- Assumes nothing.
 use mathlib.Core.Path.{_≡_}
-use mathlib.Core.List.{List, _++_}
-use Prim.Native.Nat.{ℕ, _+_}
-use lib.ListN.{take, drop}
+use mathlib.Core.List.{List, [], _∷_}
+use Prim.Native.Nat.{ℕ, _+_, _≤_, _<_}
+use lib.ListN.{length, take, drop}
 use Rattle.block.specs.Block.{blockBytes}
 use Rattle.book.specs.Book.{bookBytes}
 use Rattle.files.specs.Files.{Files, filesOf}
-use Rattle.lines.specs.declared.Reader.{Reader}
-use Rattle.lines.specs.Stream.{start}
-use Rattle.lines.specs.Walk.{walkOf}
+use Rattle.lines.specs.declared.RowText.{RowText}
+use Rattle.roll.specs.Words.{rowsAGroup, rollWords}
+use Rattle.roll.specs.Enrol.{withRows}
 use Rattle.cardline.specs.Cardline.{joined, cardPrintout}
-use Rattle.cardline.specs.Pieces.{nextLine, pieceLines, printed}
+use Rattle.cardline.specs.Groups.{groupLines, groupsOf, keptLines, printed}
 
--- a piece is printed line by line: a line, and then the lines of what is left of the piece
-abbrev pub PieceLaw : Type 0
-PieceLaw =
-    (f : Files) (r : Reader) (piece : List ℕ)
-    → nextLine f r piece ++ pieceLines f (walkOf r piece .reader) (drop (walkOf r piece .used) piece) ≡ pieceLines f r piece
+-- the rows of a group, put on a roll one behind the other, are printed as each row is alone
+abbrev pub GroupLaw : Type 0
+GroupLaw =
+    (f : Files) (rows : List RowText) → length rows ≤ rowsAGroup → (roll : List ℕ) → length roll ≡ rollWords
+    → groupLines f (length rows) (withRows 0 rows roll) ≡ keptLines f rows
 
--- a text is printed piece by piece, wherever it is cut
+-- groups of 64 rows in their order, the last one shorter
+pub record GroupsLaw : Type 0 where
+  pub more : (rows : List RowText) → rowsAGroup < length rows → groupsOf rows ≡ take rowsAGroup rows ∷ groupsOf (drop rowsAGroup rows)
+  pub last : (rows : List RowText) → 0 < length rows → length rows ≤ rowsAGroup → groupsOf rows ≡ rows ∷ []
+  pub none : groupsOf [] ≡ []
+
+-- a text is printed group by group, wherever it is cut into pieces
 abbrev pub PiecesLaw : Type 0
-PiecesLaw = (f : Files) (pieces : List (List ℕ)) → printed f start pieces ≡ cardPrintout f (joined pieces)
+PiecesLaw = (f : Files) (pieces : List (List ℕ)) → printed f pieces ≡ cardPrintout f (joined pieces)
 
 -- a longer site file or book is refused by its length: one byte past each format is enough to read
 abbrev pub FirstBytesLaw : Type 0

@@ -1,6 +1,6 @@
--- What leadcard prints, as bytes, its lines one at a time, and its laws.
+-- What leadcard prints, as bytes, a group of lines at a time, and its laws.
 pub mod Cardline
-pub mod Pieces
+pub mod Groups
 pub mod Internal
 pub mod Laws
 pub mod Bench

@@ -4,13 +4,17 @@ use Prim.Native.Nat.{ℕ, _+_, _-_, _*_, _≤_, _<_}
 use mathlib.Core.Path.{_≡_, refl, sym, ap, _∙_}
 use mathlib.Core.List.{List, [], _∷_, _++_, append-nil, append-assoc}
 use native.Mathlib.Omega.{arith}
+use borrow.Author.Tests.{ne-eqb}
 use lib.ListN.{length, getD, set, take, drop, length-append}
-use Rattle.numbers.specs.Parts.{placed}
+use lib.Seq.{take-at, drop-at}
+use Rattle.numbers.specs.Parts.{partAt, placed}
 use Rattle.numbers.proofs.Parts.{placed-next, placed-long}
+use Rattle.site.specs.Fields.{at}
 use Rattle.survey.specs.declared.RowAnswer.{RowAnswer}
 use Rattle.survey.specs.declared.RowAnswer.the-variants.{Blood, Skipped, Refused}
 use Rattle.roll.specs.Words.{rowsAGroup}
 use Rattle.group.specs.Group.{wordsAnAnswer, answersLong, answerWords, groupWords, answered}
+use Rattle.group.specs.Internal.{answerIn}
 
 -- two words each
 pub answer-long : (a : RowAnswer) → length (answerWords a) ≡ wordsAnAnswer
@@ -78,3 +82,32 @@ next-answered {lent} {n} {given} {l} {i} inv h few a e =
     then =
         let k : wordsAnAnswer * i + wordsAnAnswer ≡ wordsAnAnswer * length (given ++ (a ∷ [])) = omega (arith, more) in
         rw (words-append given a, k)
+
+-- READ BACK: two words say the answer that they are of
+pub answer-back : (a : RowAnswer) → answerIn (answerWords a) ≡ a
+unfolding answerIn
+answer-back (Blood b) = refl
+answer-back Skipped = refl
+answer-back (Refused n) = refl
+
+module _ (words : List ℕ) where
+  pub says-blood : at words 0 ≡ 0 → Blood (at words 1) ≡ answerIn words
+  unfolding answerIn
+  says-blood e = rw e
+
+  pub says-skipped : at words 0 ≡ 1 → Skipped ≡ answerIn words
+  unfolding answerIn
+  says-skipped e = rw e
+
+  pub says-refused : (at words 0 ≡ 0 → ⊥) → (at words 0 ≡ 1 → ⊥) → Refused (at words 1) ≡ answerIn words
+  unfolding answerIn
+  says-refused z n = rw (ne-eqb (at words 0) 0 z, ne-eqb (at words 0) 1 n)
+
+-- the pair of a row among those of all
+pub pair-of : (given : List RowAnswer) (a : RowAnswer) (rest : List ℕ) → partAt wordsAnAnswer (groupWords (given ++ (a ∷ [])) ++ rest) (length given) ≡ answerWords a
+pair-of given a rest =
+    rw (words-append given a, append-assoc (groupWords given) (answerWords a) rest, drop-at (groupWords given) (answerWords a ++ rest) (wordsAnAnswer * length given) (words-long given))
+    (take-at (answerWords a) rest wordsAnAnswer (answer-long a))
+
+pub pair-before : (given : List RowAnswer) (a : RowAnswer) (rest : List ℕ) → groupWords (given ++ (a ∷ [])) ++ rest ≡ groupWords given ++ (answerWords a ++ rest)
+pair-before given a rest = rw (words-append given a, append-assoc (groupWords given) (answerWords a) rest)

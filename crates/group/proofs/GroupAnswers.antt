@@ -5,7 +5,9 @@ use mathlib.Core.Path.{_≡_, refl, sym, ap, ap₂, _∙_}
 use mathlib.Core.List.{List, [], _∷_, _++_, map}
 use native.Mathlib.Omega.{arith}
 use native.Mathlib.Numerals.{add-one}
-use lib.ListN.{length, getD, length-take}
+use native.Mathlib.Decide.{ℕ-discrete}
+use lib.ListN.{length, getD, length-take, length-append}
+use Rattle.numbers.specs.Parts.{partAt}
 use Rattle.numbers.specs.Choice.{answerBy}
 use Rattle.numbers.proofs.Refusals.{answer-refused}
 use Rattle.site.specs.declared.Scenario.{Scenario}
@@ -30,8 +32,9 @@ use Rattle.survey.specs.declared.RowAnswer.{RowAnswer}
 use Rattle.survey.specs.declared.RowAnswer.the-variants.{Refused}
 use Rattle.survey.specs.Survey.{courseAnswer, cardAnswer, startAnswer, filesThen, rowAnswer}
 use Rattle.group.specs.declared.GroupRead.{GroupRead}
-use Rattle.group.specs.Group.{answered, groupAnswers, groupRead, rollAnswers}
-use Rattle.group.specs.Internal.{untilOf, courseBy, noCourse, CoursesRun, endAnswer, endAnswers}
+use Rattle.group.specs.Group.{wordsAnAnswer, answerWords, groupWords, answered, groupAnswers, groupRead, rollAnswers}
+use Rattle.group.specs.Internal.{untilOf, courseBy, noCourse, CoursesRun, endAnswer, endAnswers, answerIn, answerAt}
+use Rattle.group.proofs.AnswerWords.{answer-back, pair-of, pair-before}
 
 -- the rows that one more row joins
 starts-map : (g : Start → RowAnswer) (n : ℕ) (roll : List ℕ) → map g (startsIn (suc n) roll) ≡ map g (startsIn n roll) ++ (g (startAt roll n) ∷ [])
@@ -118,3 +121,26 @@ module _ {text roll : List ℕ} {r : RowsTaken} (taken : TextEnrolled text roll 
 
   pub text-read : (f : Files) {rows decodes : ℕ} → rows ≡ r .count → decodes ≡ filesDecodes f → record { rows = rows; decodes = decodes; next = r .next } ≡ groupRead f text
   text-read f er ed = rw (er, taken .count, ed, taken .next)
+
+-- what is read back of the words of a roll's answers
+module _ (g : Start → RowAnswer) (roll : List ℕ) where
+  starts-many : (n : ℕ) → length (map g (startsIn n roll)) ≡ n
+  unfolding startsIn
+  starts-many zero = refl
+  starts-many (suc n) = ap length (starts-map g n roll) ∙ length-append (map g (startsIn n roll)) _ ∙ omega (arith, starts-many n)
+
+  pair-at : (n : ℕ) (rest : List ℕ) (i : ℕ) → i < n → partAt wordsAnAnswer (groupWords (map g (startsIn n roll)) ++ rest) i ≡ answerWords (g (startAt roll i))
+  pair-at zero rest i h = absurd (omega arith)
+  pair-at (suc n) rest i h =
+      elim (ℕ-discrete i n) [
+        | yes e ↦
+            rw (starts-map g n roll, e)
+            (ap (partAt wordsAnAnswer (groupWords (map g (startsIn n roll) ++ (g (startAt roll n) ∷ [])) ++ rest)) (sym (starts-many n))
+            ∙ pair-of (map g (startsIn n roll)) (g (startAt roll n)) rest)
+        | no d ↦
+            rw (starts-map g n roll, pair-before (map g (startsIn n roll)) (g (startAt roll n)) rest)
+            (pair-at n (answerWords (g (startAt roll n)) ++ rest) i (omega arith))
+      ]
+
+  pub answer-at-is : (n : ℕ) (lent : List ℕ) {answers : List ℕ} → answers ≡ answered (map g (startsIn n roll)) lent → (i : ℕ) → i < n → answerAt answers i ≡ g (startAt roll i)
+  answer-at-is n lent e i h = ap answerIn (ap (λ l. partAt wordsAnAnswer l i) e ∙ pair-at n _ i h) ∙ answer-back (g (startAt roll i))

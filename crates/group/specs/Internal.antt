@@ -1,10 +1,14 @@
 -- For the contracts between the functions: the courses of a group's rows, month by month. No open call's contract needs it.
 -- Assumes nothing.
 use mathlib.Core.Path.{_≡_}
+use mathlib.Core.Bool.{cond}
 use mathlib.Core.List.{List, [], _∷_, _++_}
 use Prim.Native.Nat.{ℕ, zero, suc, _+_, _≤_, _<_, min}
 use lib.ListN.{length, getD}
+use lib.Dec.{eqb}
+use Rattle.numbers.specs.Parts.{partAt}
 use Rattle.site.specs.declared.Scenario.{Scenario}
+use Rattle.site.specs.Fields.{at}
 use Rattle.exposure.specs.declared.Exposure.{Exposure}
 use Rattle.exposure.specs.Limits.{ExposureLimits}
 use Rattle.row.specs.declared.Row.{Row}
@@ -23,9 +27,10 @@ use Rattle.cardsite.specs.Fields.{rowScenario}
 use Rattle.cardsite.specs.RowExposure.{rowExposure}
 use Rattle.roll.specs.Words.{rowsAGroup, startAt}
 use Rattle.survey.specs.declared.RowAnswer.{RowAnswer}
-use Rattle.survey.specs.declared.RowAnswer.the-variants.{Skipped, Refused}
+use Rattle.survey.specs.declared.RowAnswer.the-variants.{Blood, Skipped, Refused}
 use Rattle.survey.specs.Survey.{courseAnswer}
 use Rattle.survey.specs.Internal.{Ready}
+use Rattle.group.specs.Group.{wordsAnAnswer}
 
 -- how many months a row is run
 abbrev pub untilOf : Start → ℕ
@@ -76,3 +81,10 @@ endAnswer (start.Refused n) course = Refused n
 unfoldable pub endAnswers : List ℕ → List Course → ℕ → List RowAnswer
 endAnswers roll courses zero = []
 endAnswers roll courses (suc n) = endAnswers roll courses n ++ (endAnswer (startAt roll n) (getD courses n noCourse) ∷ [])
+
+-- the answer that two words are, and the answer of row i
+unfoldable pub answerIn : List ℕ → RowAnswer
+answerIn words = cond (eqb (at words 0) 0) (Blood (at words 1)) (cond (eqb (at words 0) 1) Skipped (Refused (at words 1)))
+
+abbrev pub answerAt : List ℕ → ℕ → RowAnswer
+answerAt answers i = answerIn (partAt wordsAnAnswer answers i)

@@ -13,7 +13,7 @@ ghost use Rattle.cardsite.specs.declared.Start.{Start};
 ghost use Rattle.survey.specs.declared.RowAnswer.the-variants.{Refused};
 ghost use Rattle.roll.specs.Words.{rowsAGroup, rollWords, startsIn};
 ghost use Rattle.group.specs.Group.{wordsAnAnswer, answersLong, answerWords, answered};
-ghost use Rattle.group.specs.Internal.{endAnswer, endAnswers};
+ghost use Rattle.group.specs.Internal.{endAnswer, endAnswers, answerIn, answerAt};
 
 // The words of a row's answer, and of a group's.
 const ANSWER_WORDS: usize = 2;
@@ -99,4 +99,29 @@ pub fn put_courses(
         put_answer(answers, i, answer);
         i = i + 1;
     }
+}
+
+// The answer that two words are. Words that no answer gave count as a refusal.
+fn answer_in(words: &[u32]) -> RowAnswer
+    requires { ⌜ length (now words) ≡ wordsAnAnswer ⌝ }
+    ensures { λ r. ⌜ r ≡ answerIn (now (words .entry)) ⌝ }
+{
+    let kind = words[0];
+    if kind == BLOOD {
+        return RowAnswer::Blood(words[1]);
+    }
+    if kind == SKIPPED {
+        return RowAnswer::Skipped;
+    }
+    RowAnswer::Refused(words[1])
+}
+
+// The answer of row i.
+pub fn answer_at(answers: &[u32], i: usize) -> RowAnswer
+    requires { ⌜ (length (now answers) ≡ answersLong) × (i < rowsAGroup) ⌝ }
+    ensures { λ r. ⌜ r ≡ answerAt (now (answers .entry)) i ⌝ }
+{
+    let start = ANSWER_WORDS * i;
+    let end = start + ANSWER_WORDS;
+    answer_in(&answers[start..end])
 }

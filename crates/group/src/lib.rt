@@ -140,7 +140,7 @@ fn courses_of(scenario: Scenario, table: &[u32], roll: &[u32], count: usize) -> 
 }
 
 // So many rows, or those of a full roll.
-fn rows_of(count: usize) -> usize
+pub fn rows_of(count: usize) -> usize
     ensures { λ r. ⌜ r ≡ min count rowsAGroup ⌝ }
 {
     if count < GROUP_ROWS { count } else { GROUP_ROWS }

@@ -3,7 +3,7 @@
 use Prim.Native.Nat.{ℕ, zero, suc, _+_, _-_, _*_, _≤_, _<_}
 use mathlib.Core.Path.{_≡_, refl, sym, ap, ap₂, _∙_}
 use mathlib.Core.Bool.{true, false}
-use mathlib.Core.List.{List, [], _∷_, _++_}
+use mathlib.Core.List.{List, [], _∷_, _++_, map, append-nil, append-assoc}
 use native.Mathlib.Omega.{arith}
 use native.Mathlib.Numerals.{add-one}
 use borrow.Author.Tests.{le-leb, lt-leb}
@@ -17,7 +17,7 @@ use Rattle.lines.specs.Walk.{walkOf}
 use Rattle.card.specs.Row.{readKept}
 use Rattle.cardsite.specs.Start.{startOf}
 use Rattle.roll.specs.Words.{rowsAGroup, wordsARow, rollWords, startWords, startIn, startAt, startsIn}
-use Rattle.roll.specs.Enrol.{withRow, enrolled, rolled, countWithLast, rolledLast}
+use Rattle.roll.specs.Enrol.{withRow, withRows, enrolled, rolled, countWithLast, rolledLast}
 use Rattle.roll.specs.Laws.{RollLaw}
 use Rattle.roll.proofs.RowWords.{words-law, words-long}
 
@@ -52,6 +52,20 @@ pub roll-law : RollLaw
 unfolding startsIn
 roll-law roll long n h kept =
     rw add-one (ap₂ (λ l x. l ++ (x ∷ [])) (starts-same n _ roll (others-stay roll long n h kept)) (row-is roll long n h kept))
+
+-- rows after rows
+pub rolled-rows : (n : ℕ) (rows : List RowText) (roll : List ℕ) → length roll ≡ rollWords → n + length rows ≤ rowsAGroup
+    → startsIn (n + length rows) (withRows n rows roll) ≡ startsIn n roll ++ map (λ (kept : RowText). startOf (readKept kept)) rows
+unfolding withRows
+rolled-rows n [] roll long few =
+    let none : n + 0 ≡ n = omega arith in
+    rw none (sym (append-nil (startsIn n roll)))
+rolled-rows n (kept ∷ rows) roll long few =
+    let one : n + suc (length rows) ≡ suc n + length rows = omega arith in
+    rw one
+    (rolled-rows (suc n) rows (withRow n kept roll) (with-row-long roll long n (omega arith) kept) (omega arith)
+    ∙ ap (_++ map (λ (k : RowText). startOf (readKept k)) rows) (ap (λ m. startsIn m (withRow n kept roll)) (sym (add-one n)) ∙ roll-law roll long n (omega arith) kept)
+    ∙ append-assoc (startsIn n roll) (startOf (readKept kept) ∷ []) (map (λ (k : RowText). startOf (readKept k)) rows))
 
 -- the number of rows, and the roll, by the code's tests: a full roll takes none
 module _ (n : ℕ) (roll : List ℕ) where

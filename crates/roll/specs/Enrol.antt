@@ -1,8 +1,8 @@
 -- Rows of a text put on the roll, one after the other; a full roll takes none.
 -- Assumes nothing.
-use Prim.Native.Nat.{ℕ, _+_}
+use Prim.Native.Nat.{ℕ, suc, _+_}
 use mathlib.Core.Bool.{cond}
-use mathlib.Core.List.{List}
+use mathlib.Core.List.{List, [], _∷_}
 use lib.ListN.{take}
 use lib.Dec.{leb}
 use Rattle.numbers.specs.Parts.{placed}
@@ -19,6 +19,11 @@ use Rattle.roll.specs.Words.{rowsAGroup, wordsARow, startWords}
 -- the roll with a row, of what is kept of it, at place i
 abbrev pub withRow : ℕ → RowText → List ℕ → List ℕ
 withRow i kept roll = placed wordsARow i (startWords (startOf (readKept kept))) roll
+
+-- rows put on the roll one behind the other, from place i on
+unfoldable pub withRows : ℕ → List RowText → List ℕ → List ℕ
+withRows i [] roll = roll
+withRows i (kept ∷ rows) roll = withRows (suc i) rows (withRow i kept roll)
 
 -- a walk up to the end of a row: where it leads, with how many rows, and the roll with the row that has ended, if one has
 abbrev pub walkEnrolled : Walk → ℕ → Enrolled
