@@ -1,4 +1,4 @@
 pub mod CardBench
 pub mod FirstBytes
-pub mod PieceLines
 pub mod RowLines
+pub mod GroupLines

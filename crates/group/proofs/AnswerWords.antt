@@ -5,7 +5,7 @@ use mathlib.Core.Path.{_≡_, refl, sym, ap, _∙_}
 use mathlib.Core.List.{List, [], _∷_, _++_, append-nil, append-assoc}
 use native.Mathlib.Omega.{arith}
 use borrow.Author.Tests.{ne-eqb}
-use lib.ListN.{length, getD, set, take, drop, length-append}
+use lib.ListN.{length, getD, set, take, drop, length-append, length-drop}
 use lib.Seq.{take-at, drop-at}
 use Rattle.numbers.specs.Parts.{partAt, placed}
 use Rattle.numbers.proofs.Parts.{placed-next, placed-long}
@@ -50,6 +50,11 @@ unfolding placed
 answer-put i a lent ew ep =
     let width : wordsAnAnswer * i + wordsAnAnswer - wordsAnAnswer * i ≡ wordsAnAnswer = omega arith in
     rw (width, ep, ew)
+
+-- with the answers in front the lent words are as many as before
+pub answered-long : (given : List RowAnswer) (lent : List ℕ) → wordsAnAnswer * length given ≤ length lent → length (answered given lent) ≡ length lent
+answered-long given lent h =
+    length-append (groupWords given) _ ∙ rw (words-long given, length-drop (wordsAnAnswer * length given) lent) (omega arith)
 
 -- THE LOOP over the rows: the answers so far
 pub record Answering (lent : List ℕ) (n : ℕ) (given : List RowAnswer) (l : List ℕ) (i : ℕ) : Type 0 where

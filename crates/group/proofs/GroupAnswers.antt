@@ -32,12 +32,12 @@ use Rattle.survey.specs.declared.RowAnswer.{RowAnswer}
 use Rattle.survey.specs.declared.RowAnswer.the-variants.{Refused}
 use Rattle.survey.specs.Survey.{courseAnswer, cardAnswer, startAnswer, filesThen, rowAnswer}
 use Rattle.group.specs.declared.GroupRead.{GroupRead}
-use Rattle.group.specs.Group.{wordsAnAnswer, answerWords, groupWords, answered, groupAnswers, groupRead, rollAnswers}
+use Rattle.group.specs.Group.{wordsAnAnswer, answersLong, answerWords, groupWords, answered, groupAnswers, groupRead, rollAnswers}
 use Rattle.group.specs.Internal.{untilOf, courseBy, noCourse, CoursesRun, endAnswer, endAnswers, answerIn, answerAt}
-use Rattle.group.proofs.AnswerWords.{answer-back, pair-of, pair-before}
+use Rattle.group.proofs.AnswerWords.{answered-long, answer-back, pair-of, pair-before}
 
 -- the rows that one more row joins
-starts-map : (g : Start → RowAnswer) (n : ℕ) (roll : List ℕ) → map g (startsIn (suc n) roll) ≡ map g (startsIn n roll) ++ (g (startAt roll n) ∷ [])
+pub starts-map : (g : Start → RowAnswer) (n : ℕ) (roll : List ℕ) → map g (startsIn (suc n) roll) ≡ map g (startsIn n roll) ++ (g (startAt roll n) ∷ [])
 unfolding startsIn
 starts-map g n roll = map-more (startsIn n roll) (startAt roll n)
   where
@@ -144,3 +144,8 @@ module _ (g : Start → RowAnswer) (roll : List ℕ) where
 
   pub answer-at-is : (n : ℕ) (lent : List ℕ) {answers : List ℕ} → answers ≡ answered (map g (startsIn n roll)) lent → (i : ℕ) → i < n → answerAt answers i ≡ g (startAt roll i)
   answer-at-is n lent e i h = ap answerIn (ap (λ l. partAt wordsAnAnswer l i) e ∙ pair-at n _ i h) ∙ answer-back (g (startAt roll i))
+
+pub roll-answers-long : (s : ℕ) (f : Files) (count : ℕ) (roll lent : List ℕ) → length lent ≡ answersLong → length (answered (rollAnswers s f count roll) lent) ≡ answersLong
+unfolding rollAnswers
+roll-answers-long s f count roll lent long =
+    answered-long (map (filesThen s f) (startsIn (min count rowsAGroup) roll)) lent (omega (arith, starts-many (filesThen s f) roll (min count rowsAGroup))) ∙ long
