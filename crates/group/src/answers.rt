@@ -82,12 +82,7 @@ pub fn put_refused(refusal: u32, count: usize, answers: &mut [u32])
 }
 
 // Every row answers by what becomes of it and its course.
-pub fn put_courses(
-    roll: &[u32],
-    courses: [Course; GROUP_ROWS],
-    count: usize,
-    answers: &mut [u32],
-)
+pub fn put_courses(roll: &[u32], courses: [Course; GROUP_ROWS], count: usize, answers: &mut [u32])
     requires { ⌜ (length (now roll) ≡ rollWords) × (length (now answers) ≡ answersLong) × (count ≤ rowsAGroup) ⌝ }
     ensures { λ _. ⌜ now (answers .exit) ≡ answered (endAnswers (now (roll .entry)) courses count) (now (answers .entry)) ⌝ }
 {

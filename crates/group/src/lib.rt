@@ -143,7 +143,11 @@ fn courses_of(scenario: Scenario, table: &[u32], roll: &[u32], count: usize) -> 
 pub fn rows_of(count: usize) -> usize
     ensures { λ r. ⌜ r ≡ min count rowsAGroup ⌝ }
 {
-    if count < GROUP_ROWS { count } else { GROUP_ROWS }
+    if count < GROUP_ROWS {
+        count
+    } else {
+        GROUP_ROWS
+    }
 }
 
 // The rows of a roll over a site file, a foods block if `has_foods` says so, and a rate book: their answers in words, and how many blocks of the

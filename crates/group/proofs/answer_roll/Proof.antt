@@ -24,11 +24,10 @@ put-refused-requires c κs = (search needs, omega (arith, c .before .before .bef
 returns : tie.Need-returns
 returns c =
     let read = c .before .before .before .read-files .ensures in
-    let a = c .before .before .before .before .before .before .before .before .before .args in
-    (
+    let a = c .before .before .before .before .before .before .before .before .before .args in (
       read .decodes,
       c .put-refused .ensures (now (a .roll))
-      ∙ ap (λ given. answered given (now (a .answers))) (roll-refused read stepsADay (now (a .roll)) (a .count) (c .before .before .before .before .before .rows-of .ensures) (c .before .before .if1 .taken)),
+          ∙ ap (λ given. answered given (now (a .answers))) (roll-refused read stepsADay (now (a .roll)) (a .count) (c .before .before .before .before .before .rows-of .ensures) (c .before .before .if1 .taken)),
     )
 
 slice-aggregate-courses-of : tie.Need-slice-aggregate-courses-of
@@ -48,11 +47,10 @@ put-courses-requires c κs =
 returns-2 : tie.Need-returns-2
 returns-2 c =
     let read = c .before .before .before .before .before .before .before .before .read-files .ensures in
-    let a = c .before .before .before .before .before .before .before .before .before .before .before .before .before .before .args in
-    (
+    let a = c .before .before .before .before .before .before .before .before .before .before .before .before .before .before .args in (
       read .decodes,
       c .put-courses .ensures
-      ∙ ap (λ given. answered given (now (a .answers))) (roll-answered read stepsADay (now (a .roll)) (a .count) (c .before .before .before .before .before .before .before .before .before .before .rows-of .ensures) (c .before .before .before .before .before .before .before .if1 .left) (c .before .before .before .courses-of .ensures)),
+          ∙ ap (λ given. answered given (now (a .answers))) (roll-answered read stepsADay (now (a .roll)) (a .count) (c .before .before .before .before .before .before .before .before .before .before .rows-of .ensures) (c .before .before .before .before .before .before .before .if1 .left) (c .before .before .before .courses-of .ensures)),
     )
 
 pub answer-roll-spec : {M : Type 1} → statement M

@@ -24,8 +24,7 @@ returns : tie.Need-returns
 returns c =
     let taken = c .before .before .before .before .enrol-text .ensures in
     let a = c .before .before .before .before .before .before .before .before .before .before .args in
-    let f = filesIf (a .has-foods) (now (a .site)) (now (a .foods)) (now (a .book)) in
-    (
+    let f = filesIf (a .has-foods) (now (a .site)) (now (a .foods)) (now (a .book)) in (
       text-read taken f refl (c .before .answer-roll .ensures .0),
       c .before .answer-roll .ensures .1 ∙ ap (λ given. answered given (now (a .answers))) (text-answered taken stepsADay f),
     )

@@ -26,9 +26,9 @@ next-exposed-requires c κs =
 returns-2 : tie.Need-returns-2
 returns-2 c =
     λ scenario table shared run here.
-      let a = c .before .before .before .before .args in
-      let on : a .done < monthsOf (a .card .age) = omega (arith, c .before .before .before .age-of .ensures, c .before .before .if1 .left) in
-      card-goes-on shared _ run stepsADay here on (c .next-exposed .ensures _ _ (card-month-given shared _ run stepsADay here on (c .before .row-exposure .ensures)))
+    let a = c .before .before .before .before .args in
+    let on : a .done < monthsOf (a .card .age) = omega (arith, c .before .before .before .age-of .ensures, c .before .before .if1 .left) in
+    card-goes-on shared _ run stepsADay here on (c .next-exposed .ensures _ _ (card-month-given shared _ run stepsADay here on (c .before .row-exposure .ensures)))
 
 pub card-month-spec : {M : Type 1} → statement M
 card-month-spec =

@@ -43,8 +43,7 @@ row-at-requires c κs = omega (arith, c .before .before .before .before .pre .0)
 
 loop-holds : tie.Need-loop-holds Inv-loop2 μ-loop2 Inv-loop μ-loop
 loop-holds c =
-    let start = c .before .before .before .before .before in
-    (
+    let start = c .before .before .before .before .before in (
       courses-born stepsADay _ _ (start .pre .1) _ _ (start .pre .3) (c .before .before .at-birth .ensures),
       length-replicate {A = Course} rowsAGroup (c .before .before .at-birth .result),
       omega arith,
@@ -65,8 +64,7 @@ row-at-requires-2 c κs =
 
 loop2-holds : tie.Need-loop2-holds Inv-loop2 μ-loop2 Inv-loop μ-loop
 loop2-holds c =
-    let here = c .before .before .before .before in
-    (
+    let here = c .before .before .before .before in (
       turn-start _ _ _ _ _ (here .loop .inv .0),
       here .loop .inv .1,
       group-month (here .before .before .before .before .before .before .pre .1) refl (c .before .before .age-of .ensures .value) (c .before .exposure-at .ensures) (c .row-at2 .ensures) (here .before .row-at .ensures),
@@ -105,10 +103,9 @@ loop2-less c = search needs
 
 loop2-again : tie.Need-loop2-again Inv-loop2 μ-loop2 Inv-loop μ-loop
 loop2-again c =
-    let turn = c .before .before .before .before in
-    (
+    let turn = c .before .before .before .before in (
       turn-next _ _ _ _ _ _ _ (c .before .before .before .loop2-test .taken)
-      (row-goes-on (turn .loop2 .inv .2) (now (turn .before .before .before .before .before .before .before .before .before .before .before .args .roll)) (turn .loop2 .i) (c .before .before .start-at .ensures) stepsADay (c .row-month .ensures _ _)) (turn .loop2 .inv .0),
+          (row-goes-on (turn .loop2 .inv .2) (now (turn .before .before .before .before .before .before .before .before .before .before .before .args .roll)) (turn .loop2 .i) (c .before .before .start-at .ensures) stepsADay (c .row-month .ensures _ _)) (turn .loop2 .inv .0),
       simp length-set (turn .loop2 .inv .1),
       turn .loop2 .inv .2,
     )

@@ -24,10 +24,10 @@ enum-told-2 c = search needs
 returns : tie.Need-returns
 returns c =
     λ scenario table shared runs here.
-      let e = c .before .before .start .given .1 in
-      let a = c .before .before .before .before .args in
-      c .card-month .ensures scenario table shared (runs _ e) (here ∙ ap (λ x. courseBy stepsADay scenario table x (a .done)) e)
-      ∙ sym (ap (λ x. courseBy stepsADay scenario table x (a .done + 1)) e)
+    let e = c .before .before .start .given .1 in
+    let a = c .before .before .before .before .args in
+    c .card-month .ensures scenario table shared (runs _ e) (here ∙ ap (λ x. courseBy stepsADay scenario table x (a .done)) e)
+    ∙ sym (ap (λ x. courseBy stepsADay scenario table x (a .done + 1)) e)
 
 returns-2 : tie.Need-returns-2
 returns-2 c =

@@ -11,8 +11,7 @@ answer-text-requires c κs = search needs
 
 returns : tie.Need-returns
 returns c =
-    let read = c .answer-text .ensures in
-    (
+    let read = c .answer-text .ensures in (
       ap (λ (r : GroupRead). r .rows) (read .0),
       (read .1, (ap (λ (r : GroupRead). r .decodes) (read .0), ap (λ (r : GroupRead). r .next) (read .0))),
     )

@@ -52,12 +52,11 @@ loop-again : tie.Need-loop-again Inv-loop μ-loop
 loop-again c =
     let turn = c .before .before .before .before .before .before in
     let here = turn .before .before in
-    let row = ends-more (now (here .before .before .before .args .roll)) (here .before .before .before .args .t2) (here .loop .i) (turn .start-at .ensures) (c .before .before .before .before .answer-of .ensures) in
-    (
+    let row = ends-more (now (here .before .before .before .args .roll)) (here .before .before .before .args .t2) (here .loop .i) (turn .start-at .ensures) (c .before .before .before .before .answer-of .ensures) in (
       turn .before .before .loop .inv .0,
       rw (← row)
-      (next-answered (turn .before .before .loop .inv .1) (turn .before .loop-test .taken) (turn .before .before .before .before .before .pre .2) _
-      (c .before .before .put-answer .ensures)),
+          (next-answered (turn .before .before .loop .inv .1) (turn .before .loop-test .taken) (turn .before .before .before .before .before .pre .2) _
+          (c .before .before .put-answer .ensures)),
     )
 
 same-length : tie.Need-same-length Inv-loop μ-loop

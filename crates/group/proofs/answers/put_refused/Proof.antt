@@ -36,11 +36,11 @@ loop-less c = search needs
 loop-again : tie.Need-loop-again Inv-loop μ-loop
 loop-again c =
     λ roll.
-      let here = c .before .before .before .before .before in
-      let refusal = here .before .before .args .refusal in
-      rw (← starts-more (λ (x : Start). Refused refusal) (here .loop .i) roll)
-      (next-answered (c .before .before .before .before .before .loop .inv roll) (c .before .before .before .before .loop-test .taken) (c .before .before .before .before .before .before .before .pre .1) (Refused refusal)
-      (c .before .before .put-answer .ensures))
+    let here = c .before .before .before .before .before in
+    let refusal = here .before .before .args .refusal in
+    rw (← starts-more (λ (x : Start). Refused refusal) (here .loop .i) roll)
+    (next-answered (c .before .before .before .before .before .loop .inv roll) (c .before .before .before .before .loop-test .taken) (c .before .before .before .before .before .before .before .pre .1) (Refused refusal)
+    (c .before .before .put-answer .ensures))
 
 same-length : tie.Need-same-length Inv-loop μ-loop
 same-length c = c .before .loop .inv [] .long ∙ sym (c .before .before .before .pre .0)
@@ -48,9 +48,9 @@ same-length c = c .before .loop .inv [] .long ∙ sym (c .before .before .before
 returns : tie.Need-returns Inv-loop μ-loop
 returns c =
     λ roll.
-      let inv = c .before .loop .inv roll in
-      let all : c .before .loop .i ≡ c .before .before .before .args .count = omega (arith, inv .reach) in
-      rw (← all) (inv .same)
+    let inv = c .before .loop .inv roll in
+    let all : c .before .loop .i ≡ c .before .before .before .args .count = omega (arith, inv .reach) in
+    rw (← all) (inv .same)
 
 pub put-refused-spec : {M : Type 1} → statement M
 put-refused-spec =
