@@ -10,6 +10,8 @@ use Rattle.diet.proofs.BenchDiet as worked
 use Rattle.row.proofs.RowWithin as row
 use Rattle.book.proofs.RowsWithin as book
 use Rattle.book.proofs.ReadBack as book-read
+use Rattle.book.proofs.DecodesWithin as book-decodes
+use Rattle.files.proofs.DecodesWithin as files-decodes
 use Rattle.intake.proofs.Refusal9 as intake
 use Rattle.uptake.proofs.UptakeBounds as uptake
 use Rattle.margin.proofs.StepLaws as margin
@@ -31,6 +33,7 @@ use Rattle.lines.proofs.Feeding as feeding
 use Rattle.lines.proofs.Answering as answering
 use Rattle.lines.proofs.Reading as reading
 use Rattle.lines.proofs.Walks as walks
+use Rattle.lines.proofs.LineStarts as starts-of-lines
 use Rattle.lines.proofs.Worked as texts
 use Rattle.figures.proofs.Written as written
 use Rattle.figures.proofs.Only as only
@@ -41,9 +44,11 @@ use Rattle.cardsite.proofs.Starts as starts
 use Rattle.cardsite.proofs.RowLaws as cardsite
 use Rattle.cardsite.proofs.RowValues as values
 use Rattle.cardsite.proofs.CardBench as worked-rows
+use Rattle.roll.proofs.RowWords as row-words
+use Rattle.roll.proofs.RollRows as roll
 use Rattle.child.proofs.CourseInRun as course
 use Rattle.survey.proofs.RowLaws as survey
-use Rattle.cardline.proofs.PieceLines as pieces
+use Rattle.cardline.proofs.GroupLines as groups
 use Rattle.cardline.proofs.FirstBytes as card-bytes
 use Rattle.cardline.proofs.CardBench as card-lines
 use Rattle.delivery.specs.Delivery.{Delivery}
@@ -122,10 +127,17 @@ delivery =
       row-kept = survey.kept-law;
       row-in-its-run = survey.own-run-law;
       row-in-run = survey.run-law;
-      card-piece = pieces.piece-law;
-      card-pieces = pieces.pieces-law;
       card-first-bytes = card-bytes.first-bytes-law;
       card-shown = card-lines.bench;
+      book-decodes = book-decodes.decodes-within;
+      files-decodes = files-decodes.decodes-within;
+      plain-rows = reading.plain-rows;
+      line-starts = starts-of-lines.line-starts;
+      row-words = row-words.words-law;
+      roll-rows = roll.roll-law;
+      card-group = groups.group-law;
+      card-groups = groups.groups-law;
+      card-pieces = groups.pieces-law;
       from-birth = demand3.from-birth;
       from-any-state = demand3.demand3;
       solution = margin.solution-law;

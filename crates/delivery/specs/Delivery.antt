@@ -10,6 +10,7 @@ use Rattle.diet.specs.Laws as diet
 use Rattle.diet.specs.Bench as worked
 use Rattle.row.specs.Laws as row
 use Rattle.book.specs.Laws as book
+use Rattle.files.specs.Laws as files
 use Rattle.intake.specs.Laws as intake
 use Rattle.uptake.specs.Laws as uptake
 use Rattle.margin.specs.Laws as margin
@@ -30,6 +31,7 @@ use Rattle.card.specs.declared.RowRead.{RowRead}
 use Rattle.card.specs.Laws as card
 use Rattle.cardsite.specs.Laws as cardsite
 use Rattle.cardsite.specs.Bench as workedRows
+use Rattle.roll.specs.Laws as roll
 use Rattle.child.specs.Laws as course
 use Rattle.survey.specs.Laws as survey
 use Rattle.cardline.specs.Laws as cardline
@@ -130,11 +132,22 @@ pub record Delivery : Type 0 where
   pub row-kept : survey.KeptLaw
   pub row-in-its-run : survey.OwnRunLaw
   pub row-in-run : survey.RunLaw
-  -- the printout of a card is made line by line of a text in any pieces; the bytes that are enough to read; lines and texts that the request shows
-  pub card-piece : cardline.PieceLaw
-  pub card-pieces : cardline.PiecesLaw
+  -- the printout of a card; the bytes that are enough to read; lines and texts that the request shows
   pub card-first-bytes : cardline.FirstBytesLaw
   pub card-shown : cardLines.Bench
+  -- GROUPS. Sixty-four rows need one reading of their book: a block of it is decoded at most 17 times
+  pub book-decodes : book.DecodesWithin
+  pub files-decodes : files.DecodesWithin
+  -- a text of rows alone gives its rows, and from the start of line k on its lines after the first k: so groups follow each other
+  pub plain-rows : texts.PlainRowsLaw
+  pub line-starts : texts.LineStartLaw
+  -- the words of a row on a roll say what becomes of it, and the rows before it stay as they were
+  pub row-words : roll.WordsLaw
+  pub roll-rows : roll.RollLaw
+  -- a group is printed as each of its rows alone; rows go in groups of 64 in their order; so a text in any pieces is printed group by group
+  pub card-group : cardline.GroupLaw
+  pub card-groups : cardline.GroupsLaw
+  pub card-pieces : cardline.PiecesLaw
   -- DEMAND 3. Over any list of month calls, refused ones among them: lead balances to the picogram between any two month ends, each ledger grows
   -- by its own exits, and after every step plasma lies within the stated margin of the exact backward Euler solution
   pub from-birth : conservation.FromBirth

@@ -190,7 +190,7 @@ pub fn enrol_next(
     ensures { λ r. ⌜ r ≡ enrolled reader (now (piece .entry)) count ⌝ }
     ensures { λ _. ⌜ now (roll .exit) ≡ rolled reader (now (piece .entry)) count (now (roll .entry)) ⌝ }
 {
-    if GROUP_ROWS <= count {
+    if count >= GROUP_ROWS {
         return Enrolled {
             reader,
             used: 0,
