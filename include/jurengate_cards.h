@@ -86,8 +86,8 @@
 #define JURENGATE_GROUP_ANSWERS 128 /* the numbers that it fills at most: two a row */
 
 /* Bytes of stack that suffice for each call, memcpy and memset included. */
-#define JURENGATE_STACK_CARD_ROW 12100
-#define JURENGATE_STACK_CARD_GROUP 32000
+#define JURENGATE_STACK_CARD_ROW 14180
+#define JURENGATE_STACK_CARD_GROUP 31020
 
 /* What a row answers beside the refusals of jurengate.h. JURENGATE_FIELD_OUTSIDE_LIMITS is the site file's, or a figure of the
  * row over the limit that stands below. */

@@ -17,7 +17,8 @@ use Rattle.block.proofs.BlockRefusals.{field}
 use Rattle.row.specs.Row.{numbersARow, rowsABlock, rowNumbers, rowFrom, rowOf, rowFits, rowsFit}
 use Rattle.book.specs.declared.BookRead.{BookRead}
 use Rattle.book.specs.Book.{bookBlocks, numbersABlock, tableNumbers, bookForm, blockNumbers, bookBlockRefusal, blocksRefusal, blocksDecoded, bookNumber, numbersOf}
-use Rattle.book.specs.Internal.{placed, BlockDecoded, BookDecoded}
+use Rattle.numbers.specs.Parts.{placed}
+use Rattle.book.specs.Internal.{BlockDecoded, BookDecoded}
 use Rattle.row.proofs.RowTests.{monthFits}
 
 -- the part of the book that the code lends is the block
@@ -60,24 +61,24 @@ module _ (n : ℕ) (numbers table : List ℕ) (long : length table ≡ tableNumb
   length-front : length (take (numbersABlock * n) table) ≡ numbersABlock * n
   length-front = length-take-le (numbersABlock * n) table (omega arith)
 
-  length-placed : length (placed n numbers table) ≡ tableNumbers
+  length-placed : length (placed numbersABlock n numbers table) ≡ tableNumbers
   unfolding placed
   length-placed =
       length-append (take (numbersABlock * n) table) (numbers ++ drop numbersABlock (drop (numbersABlock * n) table))
       ∙ omega (arith, length-front, length-append numbers (drop numbersABlock (drop (numbersABlock * n) table)), length-drop numbersABlock (drop (numbersABlock * n) table), length-drop (numbersABlock * n) table)
 
-  number-placed : (j : ℕ) → j < numbersABlock → getD (placed n numbers table) (numbersABlock * n + j) 0 ≡ getD numbers j 0
+  number-placed : (j : ℕ) → j < numbersABlock → getD (placed numbersABlock n numbers table) (numbersABlock * n + j) 0 ≡ getD numbers j 0
   unfolding placed
   number-placed j h =
       ap (λ (k : ℕ). getD (take (numbersABlock * n) table ++ (numbers ++ drop numbersABlock (drop (numbersABlock * n) table))) (k + j) 0) (sym length-front)
       ∙ getD-append-add (take (numbersABlock * n) table) (numbers ++ drop numbersABlock (drop (numbersABlock * n) table)) j 0
       ∙ List·getD-append numbers (drop numbersABlock (drop (numbersABlock * n) table)) 0 j (omega arith)
 
-  rows-placed : rowsFit (placed n numbers table) (rowsABlock * n) ≡ rowsFit numbers 0
-  rows-placed = rows-in-block n (placed n numbers table) numbers number-placed
+  rows-placed : rowsFit (placed numbersABlock n numbers table) (rowsABlock * n) ≡ rowsFit numbers 0
+  rows-placed = rows-in-block n (placed numbersABlock n numbers table) numbers number-placed
 
   -- the blocks before, and then this one
-  take-placed : take (numbersABlock * n + numbersABlock) (placed n numbers table) ≡ take (numbersABlock * n) table ++ numbers
+  take-placed : take (numbersABlock * n + numbersABlock) (placed numbersABlock n numbers table) ≡ take (numbersABlock * n) table ++ numbers
   unfolding placed
   take-placed =
       ap (take (numbersABlock * n + numbersABlock)) (sym (append-assoc (take (numbersABlock * n) table) numbers (drop numbersABlock (drop (numbersABlock * n) table))))
@@ -115,7 +116,7 @@ module _ (book : List ℕ) (n : ℕ) (table : List ℕ) (long : length table ≡
           length-take-le (numbersABlock * n + numbersABlock - numbersABlock * n) (drop (numbersABlock * n) table) (omega (arith, length-drop (numbersABlock * n) table)) ∙ omega arith in
           read ∙ ap₂ fieldsOf few (lent-block book n)
 
-      stored-placed : stored n numbers table ≡ placed n (blockNumbers (blockAt book n)) table
+      stored-placed : stored n numbers table ≡ placed numbersABlock n (blockNumbers (blockAt book n)) table
       unfolding placed
       stored-placed =
           let count : numbersABlock * n + numbersABlock - numbersABlock * n ≡ numbersABlock = omega arith in

@@ -1,23 +1,20 @@
 -- For the contracts between the functions: what decoding leaves. No open call's contract needs it.
 -- Assumes nothing.
-use Prim.Native.Nat.{ℕ, _+_, _*_}
+use Prim.Native.Nat.{ℕ, _+_}
 use mathlib.Core.Path.{_≡_}
-use mathlib.Core.List.{List, _++_}
-use lib.ListN.{length, take, drop}
+use mathlib.Core.List.{List}
+use lib.ListN.{length}
+use Rattle.numbers.specs.Parts.{placed}
 use Rattle.block.specs.Block.{blockAt}
 use Rattle.book.specs.declared.BookRead.{BookRead}
 use Rattle.book.specs.Book.{bookBlocks, numbersABlock, tableNumbers, blockNumbers, bookBlockRefusal, blocksRefusal, blocksDecoded, numbersOf}
 
--- a table with the 115 numbers of block n in their place
-unfoldable pub placed : ℕ → List ℕ → List ℕ → List ℕ
-placed n numbers table = take (numbersABlock * n) table ++ (numbers ++ drop numbersABlock (drop (numbersABlock * n) table))
-
--- what decoding block n into a table leaves, after so many decodes, and what decoding all blocks leaves
+-- what decoding block n into a table, as its part of 115 numbers, leaves, after so many decodes, and what decoding all blocks leaves
 pub record BlockDecoded (book : List ℕ) (n : ℕ) (before after : List ℕ) (decodes : ℕ) (r : BookRead) : Type 0 where
   pub refusal : r .refusal ≡ bookBlockRefusal (blockAt book n) n
   pub count : r .decodes ≡ decodes + 1
   pub long : length after ≡ tableNumbers
-  pub table : r .refusal ≡ 0 → after ≡ placed n (blockNumbers (blockAt book n)) before
+  pub table : r .refusal ≡ 0 → after ≡ placed numbersABlock n (blockNumbers (blockAt book n)) before
 
 pub record BookDecoded (book after : List ℕ) (r : BookRead) : Type 0 where
   pub refusal : r .refusal ≡ blocksRefusal book 0 bookBlocks

@@ -1,12 +1,13 @@
 -- `roll::enrol_next` meets its contract: each way out: a full roll, a row that has ended, none.
 -- Assumes nothing.
+use native.Mathlib.Omega.{arith}
 use borrow.Author.Needs.{needs}
 use Rattle.roll.proofs.RollRows.{next-full, next-row, next-none}
 use Rattle.roll.proofs.enrol_next.Statement.{statement}
 use Rattle.roll.proofs.enrol_next.Tie as tie
 
 returns : tie.Need-returns
-returns c = next-full _ _ _ _ (c .if1 .taken)
+returns c = next-full _ _ _ _ (omega (arith, c .if1 .taken))
 
 to-row-end-requires : tie.Need-to-row-end-requires
 to-row-end-requires c κs = search needs
