@@ -18,7 +18,7 @@ use Rattle.lines.proofs.Reading.{rows-read, after-pieces, ended-pieces}
 use Rattle.card.specs.Row.{readKept}
 use Rattle.cardsite.specs.declared.Start.{Start}
 use Rattle.cardsite.specs.Start.{startOf}
-use Rattle.roll.specs.Words.{rowsAGroup, rollWords, startAt, startsIn}
+use Rattle.roll.specs.Words.{rowsAGroup, startAt, startsIn}
 use Rattle.roll.specs.Enrol.{withRows}
 use Rattle.roll.proofs.RollRows.{rolled-rows}
 use Rattle.survey.specs.declared.RowAnswer.{RowAnswer}
@@ -27,7 +27,6 @@ use Rattle.survey.proofs.RowLaws.{kept-law}
 use Rattle.group.specs.Group.{answered, rollAnswers}
 use Rattle.group.specs.Internal.{answerAt}
 use Rattle.group.proofs.GroupAnswers.{starts-map, answer-at-is}
-use Rattle.cardline.specs.declared.LinesRead.{LinesRead}
 use Rattle.cardline.specs.Cardline.{rowLine, joined, cardPrintout}
 use Rattle.cardline.specs.Groups.{groupLines, linesRead, piecesRows, intoFirst, groupsWith, groupsOf, keptLines, printed}
 use Rattle.cardline.specs.Internal.{groupBytes, linesIn}

@@ -9,7 +9,6 @@ use Rattle.lines.specs.declared.RowText.{RowText}
 use Rattle.lines.specs.declared.Reader.{Reader}
 use Rattle.lines.specs.Stream.{start, after, ended, last}
 use Rattle.roll.specs.Words.{rowsAGroup}
-use Rattle.survey.specs.declared.RowAnswer.{RowAnswer}
 use Rattle.survey.specs.Survey.{keptAnswer}
 use Rattle.group.specs.Group.{rollAnswers}
 use Rattle.cardline.specs.declared.LinesRead.{LinesRead}

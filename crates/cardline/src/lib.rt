@@ -3,7 +3,6 @@
 use group::answers::WORDS;
 use roll::GROUP_ROWS;
 use roll::ROLL_WORDS;
-use survey::RowAnswer;
 ghost use mathlib.Core.Path.{_≡_};
 ghost use mathlib.Core.List.{_++_};
 ghost use lib.ListN.{length, drop};

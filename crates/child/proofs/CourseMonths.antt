@@ -1,6 +1,6 @@
--- The months of a course: an accepted course is that of a child as old as its month, a refused one stays, and birth depends on the mother alone.
+-- The months of a course: an accepted course is that of a child as old as its month, and birth depends on the mother alone.
 -- Assumes nothing.
-use Prim.Native.Nat.{ℕ, zero, suc, _+_, _≤_}
+use Prim.Native.Nat.{ℕ, zero, suc, _+_}
 use mathlib.Core.Path.{_≡_, refl, sym, ap, _∙_}
 use mathlib.Core.List.{List}
 use native.Mathlib.Omega.{arith}
@@ -62,15 +62,3 @@ module _ (s : ℕ) (scenario : Scenario) (table : List ℕ) where
   course-month-given m passed ee er e24 =
       let number = course-number m passed in
       record { exposure-is = rw number ee; row-is = rw number er; weight-is = e24 }
-
-  -- a refused course is the same at every later month
-  pub course-stays : (m n : ℕ) → m ≤ n → (courseAt s scenario table m .refusal ≡ 0 → ⊥) → courseAt s scenario table n ≡ courseAt s scenario table m
-  unfolding courseAt
-  course-stays m zero h refused = let first : m ≡ 0 = omega arith in rw first
-  course-stays m (suc n) h refused =
-      elim (ℕ-discrete m (suc n)) [
-        | yes e ↦ rw e
-        | no d ↦
-            let before = course-stays m n (omega arith) refused in
-            sym (course-kept s scenario table (courseAt s scenario table n) (λ z. refused (ap (λ (x : Course). x .refusal) (sym before) ∙ z))) ∙ before
-      ]

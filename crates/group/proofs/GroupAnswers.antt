@@ -8,11 +8,10 @@ use native.Mathlib.Numerals.{add-one}
 use native.Mathlib.Decide.{ℕ-discrete}
 use lib.ListN.{length, getD, length-take, length-append}
 use Rattle.numbers.specs.Parts.{partAt}
-use Rattle.numbers.specs.Choice.{answerBy}
 use Rattle.numbers.proofs.Refusals.{answer-refused}
 use Rattle.site.specs.declared.Scenario.{Scenario}
 use Rattle.files.specs.declared.FilesRead.{FilesRead}
-use Rattle.files.specs.Files.{Files, filesRefusal, filesDecodes, scenarioIn, tableIn}
+use Rattle.files.specs.Files.{Files, filesDecodes}
 use Rattle.files.specs.Internal.{FilesAreRead}
 use Rattle.engine.proofs.FilesDecoded.{files-passed, read-as}
 use Rattle.child.specs.declared.Course.{Course}
@@ -23,7 +22,7 @@ use Rattle.cardsite.specs.declared.Start.{Start}
 use Rattle.cardsite.specs.declared.Start.the-variants as start
 use Rattle.cardsite.specs.Start.{startOf}
 use Rattle.cardsite.specs.Fields.{rowScenario}
-use Rattle.lines.specs.Text.{linesOf, lineStart}
+use Rattle.lines.specs.Text.{linesOf}
 use Rattle.roll.specs.declared.RowsTaken.{RowsTaken}
 use Rattle.roll.specs.Words.{rowsAGroup, startAt, startsIn}
 use Rattle.roll.specs.Enrol.{groupOf}
@@ -31,7 +30,6 @@ use Rattle.roll.specs.Internal.{TextEnrolled}
 use Rattle.survey.specs.declared.RowAnswer.{RowAnswer}
 use Rattle.survey.specs.declared.RowAnswer.the-variants.{Refused}
 use Rattle.survey.specs.Survey.{courseAnswer, cardAnswer, startAnswer, filesThen, rowAnswer}
-use Rattle.group.specs.declared.GroupRead.{GroupRead}
 use Rattle.group.specs.Group.{wordsAnAnswer, answersLong, answerWords, groupWords, answered, groupAnswers, groupRead, rollAnswers}
 use Rattle.group.specs.Internal.{untilOf, courseBy, noCourse, CoursesRun, endAnswer, endAnswers, answerIn, answerAt}
 use Rattle.group.proofs.AnswerWords.{answered-long, answer-back, pair-of, pair-before}

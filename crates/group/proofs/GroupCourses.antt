@@ -1,12 +1,11 @@
 -- The courses of a group's rows, month by month: a row's course goes on up to its AGE, where it rests.
 -- Assumes nothing.
-use Prim.Native.Nat.{ℕ, zero, suc, _+_, _≤_, _<_, min, max}
+use Prim.Native.Nat.{ℕ, suc, _+_, _≤_, _<_, min, max}
 use mathlib.Core.Path.{_≡_, refl, sym, ap, _∙_}
 use mathlib.Core.List.{List}
 use native.Mathlib.Omega.{arith}
 use native.Mathlib.Decide.{ℕ-discrete}
-use native.Mathlib.Numerals.{add-one}
-use lib.ListN.{length, getD, replicate, getD-replicate, length-replicate}
+use lib.ListN.{length, replicate, getD-replicate, length-replicate}
 use Rattle.numbers.proofs.Turns.{AllBy}
 use Rattle.site.specs.declared.Scenario.{Scenario}
 use Rattle.exposure.specs.declared.Exposure.{Exposure}
@@ -20,7 +19,7 @@ use Rattle.uptake.proofs.UptakeBounds.{age-law}
 use Rattle.child.specs.declared.Course.{Course}
 use Rattle.child.specs.Month.{exposureIn, saturationMonth}
 use Rattle.child.specs.Course.{nextMonth, courseAt}
-use Rattle.child.specs.Internal.{Decoded, MonthLimits, MonthGiven}
+use Rattle.child.specs.Internal.{Decoded, MonthGiven}
 use Rattle.child.proofs.CourseMonths.{course-born-same, course-month-given}
 use Rattle.card.specs.declared.Card.{Card}
 use Rattle.card.specs.Values.{monthsOf}

@@ -15,7 +15,6 @@ use Rattle.row.specs.declared.Row.{Row}
 use Rattle.row.specs.Row.{lastMonth, rowOf}
 use Rattle.row.specs.Limits.{RowLimits}
 use Rattle.uptake.specs.Laws.{Weights}
-use Rattle.kinetics.specs.declared.State.{State}
 use Rattle.child.specs.declared.Course.{Course}
 use Rattle.child.specs.Month.{exposureIn, saturationMonth}
 use Rattle.child.specs.Course.{courseAt}

@@ -8,9 +8,8 @@ use roll::GROUP_ROWS;
 use roll::ROLL_WORDS;
 use row::Row;
 use site::Scenario;
-use survey::RowAnswer;
 ghost use mathlib.Core.Path.{_≡_};
-ghost use mathlib.Core.List.{List, map};
+ghost use mathlib.Core.List.{List};
 ghost use Prim.Native.Nat.{ℕ, _+_, _≤_, min, max};
 ghost use lib.ListN.{length};
 ghost use Rattle.site.specs.declared.Scenario.{Scenario};
@@ -18,15 +17,12 @@ ghost use Rattle.book.specs.Book.{tableNumbers};
 ghost use Rattle.files.specs.Files.{filesIf, filesDecodes};
 ghost use Rattle.steps.specs.Steps.{stepsADay};
 ghost use Rattle.card.specs.declared.Card.{Card};
-ghost use Rattle.cardsite.specs.declared.Start.{Start};
 ghost use Rattle.cardsite.specs.declared.Start.the-variants.{Runs};
 ghost use Rattle.cardsite.specs.Laws.{Running};
-ghost use Rattle.survey.specs.declared.RowAnswer.the-variants.{Refused};
-ghost use Rattle.survey.specs.Survey.{startAnswer};
 ghost use Rattle.survey.specs.Internal.{Ready};
-ghost use Rattle.roll.specs.Words.{rowsAGroup, rollWords, startsIn};
-ghost use Rattle.group.specs.Group.{answerWords, answered, rollAnswers, groupAnswers, groupRead};
-ghost use Rattle.group.specs.Internal.{untilOf, endAnswer, courseBy, GroupMonth, MonthFor, LastMonth, CoursesRun};
+ghost use Rattle.roll.specs.Words.{rowsAGroup, rollWords};
+ghost use Rattle.group.specs.Group.{answered, rollAnswers, groupAnswers, groupRead};
+ghost use Rattle.group.specs.Internal.{untilOf, courseBy, GroupMonth, MonthFor, LastMonth, CoursesRun};
 
 pub mod answers; // answers.rt: the answers in words
 

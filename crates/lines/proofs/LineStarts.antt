@@ -13,7 +13,6 @@ use Rattle.lines.specs.declared.RowText.{RowText}
 use Rattle.lines.specs.declared.Reader.{Reader}
 use Rattle.lines.specs.declared.Walk.{Walk}
 use Rattle.lines.specs.Text.{inFront, pieces, linesOf, lineStart}
-use Rattle.lines.specs.Summary.{summaryOf, fed}
 use Rattle.lines.specs.Stream.{rowStart, ends, nextOf, after, ended, last}
 use Rattle.lines.specs.Walk.{pastRowEnd, byteThen, walkOf, rowIn}
 use Rattle.lines.specs.Laws.{LineStartLaw}

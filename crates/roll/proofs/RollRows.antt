@@ -8,7 +8,7 @@ use native.Mathlib.Omega.{arith}
 use native.Mathlib.Numerals.{add-one}
 use borrow.Author.Tests.{le-leb, lt-leb}
 use lib.ListN.{length, take, drop}
-use Rattle.numbers.specs.Parts.{partAt, placed}
+use Rattle.numbers.specs.Parts.{placed}
 use Rattle.numbers.proofs.Parts.{placed-same, placed-other, placed-long}
 use Rattle.lines.specs.declared.RowText.{RowText}
 use Rattle.lines.specs.declared.Reader.{Reader}

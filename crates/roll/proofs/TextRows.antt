@@ -24,7 +24,7 @@ use Rattle.card.proofs.Rows.{row-read}
 use Rattle.cardsite.specs.declared.Start.{Start}
 use Rattle.cardsite.specs.Start.{startOf}
 use Rattle.roll.specs.declared.Enrolled.{Enrolled}
-use Rattle.roll.specs.Words.{rowsAGroup, wordsARow, rollWords, startsIn}
+use Rattle.roll.specs.Words.{rowsAGroup, rollWords, startsIn}
 use Rattle.roll.specs.Enrol.{withRow, enrolled, rolled, countWithLast, rolledLast, groupOf}
 use Rattle.roll.specs.Internal.{TextEnrolled}
 use Rattle.roll.proofs.RollRows.{with-row-long, roll-law}

@@ -10,7 +10,6 @@ use Rattle.files.specs.Files.{filesOf}
 use Rattle.steps.specs.Steps.{stepsADay}
 use Rattle.group.specs.Group.{answersLong}
 use Rattle.group.proofs.GroupAnswers.{roll-answers-long}
-use Rattle.cardline.specs.Internal.{groupBytes}
 use Rattle.cardline.proofs.GroupLines.{group-put}
 use Rattle.cardline.proofs.put_lines.Statement.{statement}
 use Rattle.cardline.proofs.put_lines.Tie as tie

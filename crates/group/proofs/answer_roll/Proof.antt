@@ -1,6 +1,6 @@
 -- `group::answer_roll` meets its contract: the files are refused, or each row answers by its course.
 -- Assumes nothing.
-use mathlib.Core.Path.{_≡_, sym, ap, _∙_}
+use mathlib.Core.Path.{sym, ap, _∙_}
 use native.Mathlib.Omega.{arith}
 use denote.Ref.{now}
 use Rattle.steps.specs.Steps.{stepsADay}

@@ -1,6 +1,6 @@
 -- `group::card_month` meets its contract: past its AGE the course rests, else it goes on by a month.
 -- Assumes nothing.
-use Rattle.group.proofs.GroupCourses.{own-limits, card-rests, card-month-given, card-goes-on}
+use Rattle.group.proofs.GroupCourses.{card-rests, card-month-given, card-goes-on}
 use Prim.Native.Nat.{_<_}
 use mathlib.Core.Path.{refl}
 use Rattle.card.specs.Values.{monthsOf}

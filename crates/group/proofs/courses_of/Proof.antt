@@ -1,17 +1,16 @@
 -- `group::courses_of` meets its contract: after the months done each row's course is as it is alone, and in a month the rows take their turns.
 -- Assumes nothing.
-use Prim.Native.Nat.{_+_, _-_, _≤_, _<_}
-use mathlib.Core.Path.{_≡_, refl, sym, ap, _∙_}
+use Prim.Native.Nat.{_+_, _-_, _≤_}
+use mathlib.Core.Path.{_≡_, refl}
 use native.Mathlib.Omega.{arith}
 use borrow.Author.Needs.{needs}
 use denote.Ref.{now}
 use lib.ListN.{length, length-set, length-replicate}
 use Rattle.numbers.proofs.Turns.{AllBy, Turned, turn-start, turn-next, turn-end}
 use Rattle.steps.specs.Steps.{stepsADay}
-use Rattle.row.specs.Row.{lastMonth}
 use Rattle.child.specs.declared.Course.{Course}
 use Rattle.roll.specs.Words.{rowsAGroup}
-use Rattle.group.specs.Internal.{LastMonth, noCourse, GroupMonth}
+use Rattle.group.specs.Internal.{noCourse, GroupMonth}
 use Rattle.group.proofs.GroupCourses.{coursesAt, courses-born, courses-ended, ready-decoded, group-month, month-for, row-goes-on}
 use Rattle.group.proofs.courses_of.Statement.{statement}
 use Rattle.group.proofs.courses_of.Tie as tie

@@ -1,7 +1,6 @@
 -- `leadcard::print_rows` is safe and ends: the roll has room, and the measure is the number of pieces left to count.
 -- Assumes nothing.
 use Prim.Native.Nat.{_<_}
-use native.Mathlib.Omega.{arith}
 use borrow.Author.Needs.{needs}
 use Rattle.roll.specs.Words.{rowsAGroup}
 use Rattle.leadcard.proofs.print_rows.Statement.{statement}

@@ -1,7 +1,6 @@
 -- `roll::put_row` meets its contract: the words of the row in its place.
 -- Assumes nothing.
 use borrow.Author.Needs.{needs}
-use mathlib.Core.Path.{ap, _∙_}
 use Rattle.roll.proofs.RollRows.{row-put}
 use Rattle.roll.proofs.put_row.Statement.{statement}
 use Rattle.roll.proofs.put_row.Tie as tie

@@ -1,7 +1,6 @@
 -- `cardline::rows::put_rows` meets its contract: the lines so far are those of the first answers.
 -- Assumes nothing.
 use Prim.Native.Nat.{_-_}
-use mathlib.Core.Path.{sym, _∙_}
 use native.Mathlib.Omega.{arith}
 use borrow.Author.Needs.{needs}
 use Rattle.cardline.proofs.RowLines.{LinesPut, no-lines, line-fits, next-line, all-lines}

@@ -1,11 +1,9 @@
 -- `group::answers::put_courses` meets its contract: the rows so far answer by their courses.
 -- Assumes nothing.
-use Prim.Native.Nat.{ℕ, _-_}
-use mathlib.Core.Path.{_≡_, sym, ap, _∙_}
-use mathlib.Core.List.{List}
+use Prim.Native.Nat.{_-_}
+use mathlib.Core.Path.{_≡_, sym, _∙_}
 use native.Mathlib.Omega.{arith}
 use lib.ListN.{length}
-use Rattle.child.specs.declared.Course.{Course}
 use Rattle.roll.specs.Words.{rowsAGroup}
 use Rattle.group.specs.Internal.{endAnswers}
 use Rattle.group.proofs.AnswerWords.{Answering, none-answered, next-answered}

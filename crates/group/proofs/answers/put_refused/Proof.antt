@@ -1,10 +1,9 @@
 -- `group::answers::put_refused` meets its contract: the rows so far are refused, whatever they are.
 -- Assumes nothing.
 use Prim.Native.Nat.{ℕ, _-_}
-use mathlib.Core.Path.{_≡_, sym, ap, _∙_}
+use mathlib.Core.Path.{_≡_, sym, _∙_}
 use mathlib.Core.List.{List, [], map}
 use native.Mathlib.Omega.{arith}
-use lib.ListN.{length}
 use Rattle.cardsite.specs.declared.Start.{Start}
 use Rattle.survey.specs.declared.RowAnswer.the-variants.{Refused}
 use Rattle.roll.specs.Words.{startsIn}
