@@ -18,6 +18,7 @@ use Rattle.row.specs.Row.{numbersARow, rowsABlock, rowNumbers, rowFrom, rowOf, 
 use Rattle.book.specs.declared.BookRead.{BookRead}
 use Rattle.book.specs.Book.{bookBlocks, numbersABlock, tableNumbers, bookForm, blockNumbers, bookBlockRefusal, blocksRefusal, blocksDecoded, bookNumber, numbersOf}
 use Rattle.numbers.specs.Parts.{placed}
+use Rattle.numbers.proofs.Parts.{placed-lent, placed-long}
 use Rattle.book.specs.Internal.{BlockDecoded, BookDecoded}
 use Rattle.row.proofs.RowTests.{monthFits}
 
@@ -60,12 +61,6 @@ module _ (n : ℕ) (table numbers : List ℕ) (same : (j : ℕ) → j < numbersA
 module _ (n : ℕ) (numbers table : List ℕ) (long : length table ≡ tableNumbers) (below : n < bookBlocks) (full : length numbers ≡ numbersABlock) where
   length-front : length (take (numbersABlock * n) table) ≡ numbersABlock * n
   length-front = length-take-le (numbersABlock * n) table (omega arith)
-
-  length-placed : length (placed numbersABlock n numbers table) ≡ tableNumbers
-  unfolding placed
-  length-placed =
-      length-append (take (numbersABlock * n) table) (numbers ++ drop numbersABlock (drop (numbersABlock * n) table))
-      ∙ omega (arith, length-front, length-append numbers (drop numbersABlock (drop (numbersABlock * n) table)), length-drop numbersABlock (drop (numbersABlock * n) table), length-drop (numbersABlock * n) table)
 
   number-placed : (j : ℕ) → j < numbersABlock → getD (placed numbersABlock n numbers table) (numbersABlock * n + j) 0 ≡ getD numbers j 0
   unfolding placed
@@ -117,10 +112,7 @@ module _ (book : List ℕ) (n : ℕ) (table : List ℕ) (long : length table ≡
           read ∙ ap₂ fieldsOf few (lent-block book n)
 
       stored-placed : stored n numbers table ≡ placed numbersABlock n (blockNumbers (blockAt book n)) table
-      unfolding placed
-      stored-placed =
-          let count : numbersABlock * n + numbersABlock - numbersABlock * n ≡ numbersABlock = omega arith in
-          ap₂ (λ (x : List ℕ) (k : ℕ). take (numbersABlock * n) table ++ (x ++ drop k (drop (numbersABlock * n) table))) read-numbers count
+      stored-placed = placed-lent numbersABlock table n read-numbers
 
       -- its numbers placed, refused by its rows or not at all
       pub checked-rows : {fit : Bool} → rowsFit (stored n numbers table) (rowsABlock * n) ≡ fit
@@ -134,7 +126,7 @@ module _ (book : List ℕ) (n : ℕ) (table : List ℕ) (long : length table ≡
           record {
             refusal = sym (rw (passed, own) (orElse-last (unless fit 8)));
             count = refl;
-            long = ap length stored-placed ∙ length-placed n (blockNumbers (blockAt book n)) table long below numbers-long;
+            long = ap length stored-placed ∙ placed-long numbersABlock bookBlocks table n (blockNumbers (blockAt book n)) long below numbers-long;
             table = λ z. stored-placed;
           }
 

@@ -1,6 +1,6 @@
 -- The lines of a group, and of a text that comes in pieces, group by group.
 -- Assumes nothing.
-use Prim.Native.Nat.{ℕ, zero, suc, _+_, _≤_, _<_, min}
+use Prim.Native.Nat.{ℕ, zero, suc, _+_, _-_, _≤_, _<_, min}
 use mathlib.Core.Path.{_≡_, refl, sym, ap, ap₂, _∙_}
 use mathlib.Core.List.{List, [], _∷_, _++_, map, append-nil, append-assoc}
 use native.Mathlib.Omega.{arith}
@@ -11,7 +11,7 @@ use Rattle.text.specs.Internal.{Put}
 use Rattle.text.proofs.Puts.{put-line}
 use Rattle.lines.specs.declared.RowText.{RowText}
 use Rattle.lines.specs.declared.Reader.{Reader}
-use Rattle.lines.specs.Text.{rowsOf}
+use Rattle.lines.specs.Text.{inFront, rowsOf}
 use Rattle.lines.specs.Summary.{summaryOf}
 use Rattle.lines.specs.Stream.{start, after, ended, last, readRows}
 use Rattle.lines.proofs.Reading.{rows-read, after-pieces, ended-pieces}
@@ -28,7 +28,7 @@ use Rattle.group.specs.Group.{answered, rollAnswers}
 use Rattle.group.specs.Internal.{answerAt}
 use Rattle.group.proofs.GroupAnswers.{starts-map, answer-at-is}
 use Rattle.cardline.specs.Cardline.{rowLine, joined, cardPrintout}
-use Rattle.cardline.specs.Groups.{groupLines, linesRead, piecesRows, intoFirst, groupsWith, groupsOf, keptLines, printed}
+use Rattle.cardline.specs.Groups.{groupLines, linesRead, piecesRows, groupsWith, groupsOf, keptLines, printed}
 use Rattle.cardline.specs.Internal.{groupBytes, linesIn}
 use Rattle.cardline.specs.Laws.{GroupLaw, GroupsLaw, PiecesLaw}
 
@@ -84,16 +84,16 @@ group-law f rows few roll long =
 
 -- LAW: rows in groups
 groups-many : (k : ℕ) (rows : List RowText) → k < length rows → groupsWith k rows ≡ take k rows ∷ groupsOf (drop k rows)
-unfolding groupsWith intoFirst
+unfolding groupsWith inFront
 groups-many k [] h = absurd (omega arith)
 groups-many zero (row ∷ rows) h = refl
-groups-many (suc k) (row ∷ rows) h = ap (intoFirst row) (groups-many k rows (omega arith))
+groups-many (suc k) (row ∷ rows) h = ap (inFront row) (groups-many k rows (omega arith))
 
 groups-few : (k : ℕ) (row : RowText) (rows : List RowText) → suc (length rows) ≤ k → groupsWith k (row ∷ rows) ≡ (row ∷ rows) ∷ []
-unfolding groupsWith intoFirst
+unfolding groupsWith inFront
 groups-few zero row rows h = absurd (omega arith)
 groups-few (suc k) row [] h = refl
-groups-few (suc k) row (next ∷ rows) h = ap (intoFirst row) (groups-few k next rows (omega arith))
+groups-few (suc k) row (next ∷ rows) h = ap (inFront row) (groups-few k next rows (omega arith))
 
 one-group : (rows : List RowText) → 0 < length rows → length rows ≤ rowsAGroup → groupsOf rows ≡ rows ∷ []
 one-group [] some few = absurd (omega arith)
@@ -109,8 +109,8 @@ unfolding keptLines
 lines-join f a b = ap joined (map-append _ a b) ∙ joined-append _ _
 
 -- rows are printed in groups as they are printed at once
-first-lines : (f : Files) (row : RowText) (groups : List (List RowText)) → joined (map (keptLines f) (intoFirst row groups)) ≡ keptLines f (row ∷ []) ++ joined (map (keptLines f) groups)
-unfolding intoFirst joined
+first-lines : (f : Files) (row : RowText) (groups : List (List RowText)) → joined (map (keptLines f) (inFront row groups)) ≡ keptLines f (row ∷ []) ++ joined (map (keptLines f) groups)
+unfolding inFront joined
 first-lines f row [] = refl
 first-lines f row (g ∷ groups) =
     ap (_++ joined (map (keptLines f) groups)) (lines-join f (row ∷ []) g) ∙ append-assoc (keptLines f (row ∷ [])) (keptLines f g) (joined (map (keptLines f) groups))
@@ -118,7 +118,7 @@ first-lines f row (g ∷ groups) =
 groups-lines : (f : Files) (k : ℕ) (rows : List RowText) → joined (map (keptLines f) (groupsWith k rows)) ≡ keptLines f rows
 unfolding groupsWith joined keptLines
 groups-lines f k [] = refl
-groups-lines f zero (row ∷ rows) = first-lines f row (groupsWith 63 rows) ∙ ap (keptLines f (row ∷ []) ++_) (groups-lines f 63 rows) ∙ sym (lines-join f (row ∷ []) rows)
+groups-lines f zero (row ∷ rows) = first-lines f row (groupsWith (rowsAGroup - 1) rows) ∙ ap (keptLines f (row ∷ []) ++_) (groups-lines f (rowsAGroup - 1) rows) ∙ sym (lines-join f (row ∷ []) rows)
 groups-lines f (suc k) (row ∷ rows) = first-lines f row (groupsWith k rows) ∙ ap (keptLines f (row ∷ []) ++_) (groups-lines f k rows) ∙ sym (lines-join f (row ∷ []) rows)
 
 -- the rows of a text's pieces are those of the text

@@ -1,12 +1,13 @@
 -- The printout as the program makes it: the lines of a group of rows at a time, of a text that comes in pieces.
 -- Assumes nothing.
-use Prim.Native.Nat.{ℕ, zero, suc}
+use Prim.Native.Nat.{ℕ, zero, suc, _-_}
 use mathlib.Core.List.{List, [], _∷_, _++_, map}
 use lib.ListN.{length}
 use Rattle.files.specs.Files.{Files, filesDecodes}
 use Rattle.steps.specs.Steps.{stepsADay}
 use Rattle.lines.specs.declared.RowText.{RowText}
 use Rattle.lines.specs.declared.Reader.{Reader}
+use Rattle.lines.specs.Text.{inFront}
 use Rattle.lines.specs.Stream.{start, after, ended, last}
 use Rattle.roll.specs.Words.{rowsAGroup}
 use Rattle.survey.specs.Survey.{keptAnswer}
@@ -26,16 +27,11 @@ unfoldable pub piecesRows : Reader → List (List ℕ) → List RowText
 piecesRows r [] = last r
 piecesRows r (piece ∷ pieces) = ended r piece ++ piecesRows (after r piece) pieces
 
--- a row at the front of the first group
-unfoldable pub intoFirst : RowText → List (List RowText) → List (List RowText)
-intoFirst row [] = (row ∷ []) ∷ []
-intoFirst row (g ∷ groups) = (row ∷ g) ∷ groups
-
 -- rows in groups: with room for k more in the first group, each of the others takes 64
 unfoldable pub groupsWith : ℕ → List RowText → List (List RowText)
 groupsWith k [] = []
-groupsWith zero (row ∷ rows) = [] ∷ intoFirst row (groupsWith 63 rows)
-groupsWith (suc k) (row ∷ rows) = intoFirst row (groupsWith k rows)
+groupsWith zero (row ∷ rows) = [] ∷ inFront row (groupsWith (rowsAGroup - 1) rows)
+groupsWith (suc k) (row ∷ rows) = inFront row (groupsWith k rows)
 
 abbrev pub groupsOf : List RowText → List (List RowText)
 groupsOf rows = groupsWith rowsAGroup rows

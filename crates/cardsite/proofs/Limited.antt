@@ -26,7 +26,17 @@ or-within : (limit : ℕ) (v w : Value) → over limit v ≡ false → over limi
 or-within limit Missing w a b = b
 or-within limit (Figure n) w a b = a
 
--- the figures of a card that passes its 7
+-- the figures of a card that passes its 7, each by itself
+pub record OwnWithin (c : Card) : Type 0 where
+  pub soil : overAges soilGroup (c .soil) ≡ false
+  pub dust : overAges dustGroup (c .dust) ≡ false
+  pub water : overSingle constantAt (c .water) ≡ false
+  pub air : overAges airGroup (c .air) ≡ false
+  pub other : overAges alternateGroup (c .other) ≡ false
+  pub abssoil : overSingle absorbedSoilAt (c .abssoil) ≡ false
+  pub absdust : overSingle absorbedDustAt (c .absdust) ≡ false
+
+-- and as they are put over a site file, where a missing soil or dust copies the other
 pub record Within (c : Card) : Type 0 where
   pub soil : overAges soilGroup (soilIn c) ≡ false
   pub dust : overAges dustGroup (dustIn c) ≡ false
@@ -65,9 +75,9 @@ module _ (c : Card) where
   upToAbssoil = upToOther || overSingle absorbedSoilAt (c .abssoil)
 
   -- none is
-  pub within : overLimit c ≡ false → Within c
+  pub own-within : overLimit c ≡ false → OwnWithin c
   unfolding overLimit
-  within passed =
+  own-within passed =
       let absdust = or-none upToAbssoil (overSingle absorbedDustAt (c .absdust)) passed in
       let abssoil = or-none upToOther (overSingle absorbedSoilAt (c .abssoil)) (absdust .0) in
       let other = or-none upToAir (overAges alternateGroup (c .other)) (abssoil .0) in
@@ -75,13 +85,26 @@ module _ (c : Card) where
       let water = or-none upToDust (overSingle constantAt (c .water)) (air .0) in
       let both = or-none upToSoil (overAges dustGroup (c .dust)) (water .0) in
       record {
-        soil = or-within (byAge limits soilGroup 0) (c .soil) (c .dust) (both .0) (soil-as-dust (c .dust) ∙ both .1);
-        dust = or-within (byAge limits dustGroup 0) (c .dust) (c .soil) (both .1) (sym (soil-as-dust (c .soil)) ∙ both .0);
+        soil = both .0;
+        dust = both .1;
         water = water .1;
         air = air .1;
         other = other .1;
         abssoil = abssoil .1;
         absdust = absdust .1;
+      }
+
+  pub within : overLimit c ≡ false → Within c
+  within passed =
+      let own = own-within passed in
+      record {
+        soil = or-within (byAge limits soilGroup 0) (c .soil) (c .dust) (own .soil) (soil-as-dust (c .dust) ∙ own .dust);
+        dust = or-within (byAge limits dustGroup 0) (c .dust) (c .soil) (own .dust) (sym (soil-as-dust (c .soil)) ∙ own .soil);
+        water = own .water;
+        air = own .air;
+        other = own .other;
+        abssoil = own .abssoil;
+        absdust = own .absdust;
       }
 
   -- the ways out of `over_limit`: the first figure that is over its limit, or the last

@@ -1,11 +1,11 @@
 -- The answers of a group in words: a pair is put behind the others, and the places past them are kept.
 -- Assumes nothing.
-use Prim.Native.Nat.{ℕ, _+_, _-_, _*_, _≤_, _<_}
+use Prim.Native.Nat.{ℕ, _+_, _*_, _≤_, _<_}
 use mathlib.Core.Path.{_≡_, refl, sym, ap, _∙_}
 use mathlib.Core.List.{List, [], _∷_, _++_, append-nil, append-assoc}
 use native.Mathlib.Omega.{arith}
 use borrow.Author.Tests.{ne-eqb}
-use lib.ListN.{length, getD, set, take, drop, length-append, length-drop}
+use lib.ListN.{length, getD, set, drop, length-append, length-drop}
 use lib.Seq.{take-at, drop-at}
 use Rattle.numbers.specs.Parts.{partAt, placed}
 use Rattle.numbers.proofs.Parts.{placed-next, placed-long}
@@ -41,15 +41,6 @@ pair-put (a ∷ b ∷ []) (x ∷ []) e f = absurd (omega arith)
 pair-put (a ∷ b ∷ []) (x ∷ y ∷ []) e f = refl
 pair-put (a ∷ b ∷ []) (x ∷ y ∷ z ∷ zs) e f = absurd (omega arith)
 pair-put (a ∷ b ∷ c ∷ cs) words e f = absurd (omega arith)
-
--- the pair that the code puts in its place
-pub answer-put : (i : ℕ) (a : RowAnswer) (lent : List ℕ) {words put : List ℕ} → words ≡ answerWords a → put ≡ words
-    → take (wordsAnAnswer * i) lent ++ (put ++ drop (wordsAnAnswer * i + wordsAnAnswer - wordsAnAnswer * i) (drop (wordsAnAnswer * i) lent))
-    ≡ placed wordsAnAnswer i (answerWords a) lent
-unfolding placed
-answer-put i a lent ew ep =
-    let width : wordsAnAnswer * i + wordsAnAnswer - wordsAnAnswer * i ≡ wordsAnAnswer = omega arith in
-    rw (width, ep, ew)
 
 -- with the answers in front the lent words are as many as before
 pub answered-long : (given : List RowAnswer) (lent : List ℕ) → wordsAnAnswer * length given ≤ length lent → length (answered given lent) ≡ length lent

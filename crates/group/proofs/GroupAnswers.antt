@@ -6,7 +6,7 @@ use mathlib.Core.List.{List, [], _∷_, _++_, map}
 use native.Mathlib.Omega.{arith}
 use native.Mathlib.Numerals.{add-one}
 use native.Mathlib.Decide.{ℕ-discrete}
-use lib.ListN.{length, getD, length-take, length-append}
+use lib.ListN.{length, getD, length-take, length-map}
 use Rattle.numbers.specs.Parts.{partAt}
 use Rattle.numbers.proofs.Refusals.{answer-refused}
 use Rattle.site.specs.declared.Scenario.{Scenario}
@@ -27,6 +27,7 @@ use Rattle.roll.specs.declared.RowsTaken.{RowsTaken}
 use Rattle.roll.specs.Words.{rowsAGroup, startAt, startsIn}
 use Rattle.roll.specs.Enrol.{groupOf}
 use Rattle.roll.specs.Internal.{TextEnrolled}
+use Rattle.roll.proofs.TextRows.{starts-long}
 use Rattle.survey.specs.declared.RowAnswer.{RowAnswer}
 use Rattle.survey.specs.declared.RowAnswer.the-variants.{Refused}
 use Rattle.survey.specs.Survey.{courseAnswer, cardAnswer, startAnswer, filesThen, rowAnswer}
@@ -123,9 +124,7 @@ module _ {text roll : List ℕ} {r : RowsTaken} (taken : TextEnrolled text roll 
 -- what is read back of the words of a roll's answers
 module _ (g : Start → RowAnswer) (roll : List ℕ) where
   starts-many : (n : ℕ) → length (map g (startsIn n roll)) ≡ n
-  unfolding startsIn
-  starts-many zero = refl
-  starts-many (suc n) = ap length (starts-map g n roll) ∙ length-append (map g (startsIn n roll)) _ ∙ omega (arith, starts-many n)
+  starts-many n = length-map (startsIn n roll) g ∙ starts-long n roll
 
   pair-at : (n : ℕ) (rest : List ℕ) (i : ℕ) → i < n → partAt wordsAnAnswer (groupWords (map g (startsIn n roll)) ++ rest) i ≡ answerWords (g (startAt roll i))
   pair-at zero rest i h = absurd (omega arith)

@@ -10,7 +10,6 @@ use Rattle.numbers.proofs.Turns.{AllBy}
 use Rattle.site.specs.declared.Scenario.{Scenario}
 use Rattle.exposure.specs.declared.Exposure.{Exposure}
 use Rattle.exposure.specs.Exposure.{exposureAt}
-use Rattle.exposure.specs.Limits.{ExposureLimits}
 use Rattle.exposure.proofs.ExposureWithin.{exposure-within}
 use Rattle.row.specs.declared.Row.{Row}
 use Rattle.row.specs.Row.{lastMonth, rowOf}
@@ -19,7 +18,8 @@ use Rattle.uptake.proofs.UptakeBounds.{age-law}
 use Rattle.child.specs.declared.Course.{Course}
 use Rattle.child.specs.Month.{exposureIn, saturationMonth}
 use Rattle.child.specs.Course.{nextMonth, courseAt}
-use Rattle.child.specs.Internal.{Decoded, MonthGiven}
+use Rattle.child.specs.Internal.{Decoded, MonthLimits, MonthGiven}
+use Rattle.child.proofs.MonthAnswers.{limits-at}
 use Rattle.child.proofs.CourseMonths.{course-born-same, course-month-given}
 use Rattle.card.specs.declared.Card.{Card}
 use Rattle.card.specs.Values.{monthsOf}
@@ -28,11 +28,11 @@ use Rattle.cardsite.specs.declared.Start.the-variants as start
 use Rattle.cardsite.specs.Fields.{rowScenario}
 use Rattle.cardsite.specs.RowExposure.{rowExposure}
 use Rattle.cardsite.specs.Laws.{Running}
-use Rattle.cardsite.proofs.RowLaws.{row-within}
 use Rattle.cardsite.proofs.RowValues.{row-mother, row-exposures}
 use Rattle.roll.specs.Words.{rowsAGroup, startAt}
 use Rattle.roll.proofs.RowWords.{start-running}
 use Rattle.survey.specs.Internal.{Ready}
+use Rattle.survey.proofs.RowAnswers.{row-decoded}
 use Rattle.group.specs.Internal.{untilOf, LastMonth, courseBy, GroupMonth, MonthFor, noCourse, CoursesRun}
 
 module _ {scenario : Scenario} {table : List ℕ} {done : ℕ} {exposure : Exposure} {row : Row} {weight24 : ℕ}
@@ -42,8 +42,8 @@ module _ {scenario : Scenario} {table : List ℕ} {done : ℕ} {exposure : Expos
   own-exposure h =
       ap (rowExposure c) (shared .exposure-is) ∙ sym (row-exposures c scenario (shared .ready .fields .long) (ageOf (done + 1)) (age-law (done + 1) (omega arith)))
 
-  pub own-limits : done < lastMonth → ExposureLimits (rowExposure c exposure)
-  own-limits h = rw (own-exposure h) (row-within c (run .within) scenario (shared .ready .fields) (ageOf (done + 1)) (age-law (done + 1) (omega arith)))
+  pub own-limits : done < lastMonth → MonthLimits (rowExposure c exposure) row weight24
+  own-limits h = rw (own-exposure h, shared .row-is, shared .weight-is) (limits-at (row-decoded c run scenario table (shared .ready)) (done + 1) (omega arith))
 
   module _ (s : ℕ) {course : Course} (here : course ≡ courseBy s scenario table (start.Runs c) done) where
     -- past its AGE it rests
@@ -160,19 +160,7 @@ module _ {scenario : Scenario} {table : List ℕ} {done : ℕ} {exposure : Expos
   row-runs c e = start-running _ c (sym ex ∙ e)
 
   pub month-for : done < lastMonth → MonthFor x exposure row weight24
-  month-for h =
-      record {
-        exposed = λ c e. own-limits shared c (row-runs c e) h;
-        booked = rw (shared .row-is) (shared .ready .row (done + 1) (omega arith));
-        weights =
-            rw (shared .row-is, shared .weight-is)
-            (record {
-              least = shared .ready .row (done + 1) (omega arith) .body-least;
-              most = shared .ready .row (done + 1) (omega arith) .body-most;
-              least24 = shared .ready .row saturationMonth (omega arith) .body-least;
-              most24 = shared .ready .row saturationMonth (omega arith) .body-most;
-            });
-      }
+  month-for h = λ c e. own-limits shared c (row-runs c e) h
 
   -- the row's course a month later, by what the code answers of it
   pub row-goes-on : (s : ℕ) {course next : Course}

@@ -10,14 +10,12 @@ use Rattle.numbers.specs.Parts.{partAt}
 use Rattle.site.specs.declared.Scenario.{Scenario}
 use Rattle.site.specs.Fields.{at}
 use Rattle.exposure.specs.declared.Exposure.{Exposure}
-use Rattle.exposure.specs.Limits.{ExposureLimits}
 use Rattle.row.specs.declared.Row.{Row}
 use Rattle.row.specs.Row.{lastMonth, rowOf}
-use Rattle.row.specs.Limits.{RowLimits}
-use Rattle.uptake.specs.Laws.{Weights}
 use Rattle.child.specs.declared.Course.{Course}
 use Rattle.child.specs.Month.{exposureIn, saturationMonth}
 use Rattle.child.specs.Course.{courseAt}
+use Rattle.child.specs.Internal.{MonthLimits}
 use Rattle.card.specs.declared.Card.{Card}
 use Rattle.card.specs.Values.{monthsOf}
 use Rattle.cardsite.specs.declared.Start.{Start}
@@ -56,11 +54,9 @@ pub record GroupMonth (scenario : Scenario) (table : List ℕ) (done : ℕ) (exp
   pub row-is : row ≡ rowOf table (done + 1)
   pub weight-is : weight24 ≡ rowOf table saturationMonth .«body_weight»
 
--- they are within their limits, with the row's own figures in the exposure
-pub record MonthFor (x : Start) (exposure : Exposure) (row : Row) (weight24 : ℕ) : Type 0 where
-  pub exposed : (c : Card) → x ≡ start.Runs c → ExposureLimits (rowExposure c exposure)
-  pub booked : RowLimits row
-  pub weights : Weights (row .«body_weight») weight24
+-- they are within their limits for a row that runs, with its own figures in the exposure
+abbrev pub MonthFor : Start → Exposure → Row → ℕ → Type 0
+MonthFor x exposure row weight24 = (c : Card) → x ≡ start.Runs c → MonthLimits (rowExposure c exposure) row weight24
 
 -- what stands past the end of a list of courses
 abbrev pub noCourse : Course

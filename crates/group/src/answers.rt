@@ -8,7 +8,6 @@ ghost use mathlib.Core.List.{List, map};
 ghost use Prim.Native.Nat.{ℕ, _≤_, _<_};
 ghost use lib.ListN.{length};
 ghost use Rattle.numbers.specs.Parts.{placed};
-ghost use Rattle.site.specs.Fields.{at};
 ghost use Rattle.cardsite.specs.declared.Start.{Start};
 ghost use Rattle.survey.specs.declared.RowAnswer.the-variants.{Refused};
 ghost use Rattle.roll.specs.Words.{rowsAGroup, rollWords, startsIn};

@@ -19,6 +19,8 @@ ghost use Rattle.steps.specs.Steps.{stepsADay};
 ghost use Rattle.card.specs.declared.Card.{Card};
 ghost use Rattle.cardsite.specs.declared.Start.the-variants.{Runs};
 ghost use Rattle.cardsite.specs.Laws.{Running};
+ghost use Rattle.cardsite.specs.RowExposure.{rowExposure};
+ghost use Rattle.child.specs.Internal.{MonthLimits};
 ghost use Rattle.survey.specs.Internal.{Ready};
 ghost use Rattle.roll.specs.Words.{rowsAGroup, rollWords};
 ghost use Rattle.group.specs.Group.{answered, rollAnswers, groupAnswers, groupRead};
@@ -76,7 +78,7 @@ fn card_month(
     row: Row,
     weight24: u64,
 ) -> Course
-    requires { ⌜ MonthFor (Runs card) exposure row weight24 ⌝ }
+    requires { ⌜ MonthLimits (rowExposure card exposure) row weight24 ⌝ }
     ensures { λ r. ⌜ ((scenario : Scenario) (table : List ℕ) → GroupMonth scenario table done exposure row weight24 → Running card → course ≡ courseBy stepsADay scenario table (Runs card) done → r ≡ courseBy stepsADay scenario table (Runs card) (done + 1)) ⌝ }
 {
     let age = card::age_of(card);

@@ -16,9 +16,14 @@ module _ (w : ℕ) where
   pub part-ends : {j i : ℕ} → j < i → w * j + w ≤ w * i
   part-ends {j = j} {i = i} h = let more : j + 1 ≤ i = omega arith in let e : w * (j + 1) ≤ w * i = mul-le-mul-left w more in omega (arith, e)
 
-  -- a part lent from its start to its end
+  -- a part lent from its start to its end, as it is and as it comes back
   pub part-lent : (l : List ℕ) (i : ℕ) → take (w * i + w - w * i) (drop (w * i) l) ≡ partAt w l i
   part-lent l i = let e : w * i + w - w * i ≡ w = omega arith in rw e
+
+  pub placed-lent : (l : List ℕ) (i : ℕ) {part put : List ℕ} → put ≡ part
+      → take (w * i) l ++ (put ++ drop (w * i + w - w * i) (drop (w * i) l)) ≡ placed w i part l
+  unfolding placed
+  placed-lent l i e = let width : w * i + w - w * i ≡ w = omega arith in rw (width, e)
 
   pub part-long : (n : ℕ) (l : List ℕ) (i : ℕ) → length l ≡ w * n → i < n → length (partAt w l i) ≡ w
   part-long n l i long h = let e : w * i + w ≤ w * n = part-ends h in length-take-le w (drop (w * i) l) (rw length-drop (omega arith))

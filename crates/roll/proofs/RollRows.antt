@@ -1,14 +1,13 @@
 -- Rows put on the roll, one behind the other.
 -- Assumes nothing.
-use Prim.Native.Nat.{ℕ, zero, suc, _+_, _-_, _*_, _≤_, _<_}
+use Prim.Native.Nat.{ℕ, zero, suc, _+_, _≤_, _<_}
 use mathlib.Core.Path.{_≡_, refl, sym, ap, ap₂, _∙_}
 use mathlib.Core.Bool.{true, false}
 use mathlib.Core.List.{List, [], _∷_, _++_, map, append-nil, append-assoc}
 use native.Mathlib.Omega.{arith}
 use native.Mathlib.Numerals.{add-one}
 use borrow.Author.Tests.{le-leb, lt-leb}
-use lib.ListN.{length, take, drop}
-use Rattle.numbers.specs.Parts.{placed}
+use lib.ListN.{length}
 use Rattle.numbers.proofs.Parts.{placed-same, placed-other, placed-long}
 use Rattle.lines.specs.declared.RowText.{RowText}
 use Rattle.lines.specs.declared.Reader.{Reader}
@@ -20,14 +19,6 @@ use Rattle.roll.specs.Words.{rowsAGroup, wordsARow, rollWords, startWord
 use Rattle.roll.specs.Enrol.{withRow, withRows, enrolled, rolled, countWithLast, rolledLast}
 use Rattle.roll.specs.Laws.{RollLaw}
 use Rattle.roll.proofs.RowWords.{words-law, words-long}
-
--- the row that the code puts in its place
-pub row-put : (i : ℕ) (kept : RowText) (roll : List ℕ) {words put : List ℕ} → words ≡ startWords (startOf (readKept kept)) → put ≡ words
-    → take (wordsARow * i) roll ++ (put ++ drop (wordsARow * i + wordsARow - wordsARow * i) (drop (wordsARow * i) roll)) ≡ withRow i kept roll
-unfolding placed
-row-put i kept roll ew ep =
-    let width : wordsARow * i + wordsARow - wordsARow * i ≡ wordsARow = omega arith in
-    rw (width, ep, ew)
 
 -- rolls with the same first n rows
 starts-same : (n : ℕ) (a b : List ℕ) → ((j : ℕ) → j < n → startAt a j ≡ startAt b j) → startsIn n a ≡ startsIn n b

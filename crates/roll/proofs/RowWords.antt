@@ -8,7 +8,7 @@ use native.Mathlib.Omega.{arith}
 use borrow.Author.Tests.{eq-eqb, ne-eqb, ltb-false}
 use lib.ListN.{length}
 use lib.Dec.{eqb}
-use Rattle.site.specs.Fields.{fieldCount, at, limits, airGroup, soilGroup, dustGroup, alternateGroup, constantAt, absorbedDustAt, absorbedSoilAt}
+use Rattle.site.specs.Fields.{fieldCount, at, limits}
 use Rattle.site.proofs.FieldTests.{limit-small}
 use Rattle.lines.specs.declared.RowText.{RowText}
 use Rattle.card.specs.declared.Value.{Value}
@@ -20,13 +20,13 @@ use Rattle.card.specs.Row.{readKept}
 use Rattle.card.specs.Values.{monthsOf}
 use Rattle.cardsite.specs.declared.Start.{Start}
 use Rattle.cardsite.specs.declared.Start.the-variants.{Runs, Skipped, Refused}
-use Rattle.cardsite.specs.Over.{over, overAges, overSingle, overLimit}
+use Rattle.cardsite.specs.Over.{over}
 use Rattle.cardsite.specs.Start.{startOf}
 use Rattle.cardsite.specs.Laws.{Running}
-use Rattle.cardsite.proofs.Limited.{or-none, upToSoil, upToDust, upToWater, upToAir, upToOther, upToAbssoil}
+use Rattle.cardsite.proofs.Limited.{own-within}
 use Rattle.cardsite.proofs.Starts.{runs-within}
 use Rattle.roll.specs.Words.{wordsARow, gapWord, wordOf, valueIn, cardWords, startWords, cardIn, startIn}
-use Rattle.roll.specs.Internal.{Kept}
+use Rattle.roll.specs.Internal.{FitsWords}
 use Rattle.roll.specs.Laws.{WordsLaw}
 
 -- a word is a gap or a figure
@@ -46,38 +46,9 @@ module _ (place : ℕ) (h : place < fieldCount) where
   value-back Missing e = refl
   value-back (Figure n) e = sym (value-figure n (λ z. absurd (omega (arith, limit-small place h, ltb-false (at limits place) n e))))
 
--- the seven figures of a card, each within its own limit
-record OwnWithin (c : Card) : Type 0 where
-  soil : overAges soilGroup (c .soil) ≡ false
-  dust : overAges dustGroup (c .dust) ≡ false
-  water : overSingle constantAt (c .water) ≡ false
-  air : overAges airGroup (c .air) ≡ false
-  other : overAges alternateGroup (c .other) ≡ false
-  abssoil : overSingle absorbedSoilAt (c .abssoil) ≡ false
-  absdust : overSingle absorbedDustAt (c .absdust) ≡ false
-
-own-within : (c : Card) → overLimit c ≡ false → OwnWithin c
-unfolding overLimit
-own-within c passed =
-    let absdust = or-none (upToAbssoil c) (overSingle absorbedDustAt (c .absdust)) passed in
-    let abssoil = or-none (upToOther c) (overSingle absorbedSoilAt (c .abssoil)) (absdust .0) in
-    let other = or-none (upToAir c) (overAges alternateGroup (c .other)) (abssoil .0) in
-    let air = or-none (upToWater c) (overAges airGroup (c .air)) (other .0) in
-    let water = or-none (upToDust c) (overSingle constantAt (c .water)) (air .0) in
-    let both = or-none (upToSoil c) (overAges dustGroup (c .dust)) (water .0) in
-    record {
-      soil = both .0;
-      dust = both .1;
-      water = water .1;
-      air = air .1;
-      other = other .1;
-      abssoil = abssoil .1;
-      absdust = absdust .1;
-    }
-
 -- a card that runs fits its words
-pub running-kept : (c : Card) → Running c → Kept c
-running-kept c run =
+pub running-fits : (c : Card) → Running c → FitsWords c
+running-fits c run =
     let own = own-within c (run .within) in
     record {
       age = omega (arith, run .last);
@@ -148,8 +119,8 @@ words-long (Refused n) = refl
 
 -- the words that the code makes, by what becomes of the row
 module _ (kept : RowText) {x : Start} (ex : x ≡ startOf (readKept kept)) where
-  pub runs-kept : (c : Card) → x ≡ Runs c → Kept c
-  runs-kept c e = running-kept c (runs-within (readKept kept) c (sym ex ∙ e))
+  pub runs-fits : (c : Card) → x ≡ Runs c → FitsWords c
+  runs-fits c e = running-fits c (runs-within (readKept kept) c (sym ex ∙ e))
 
   pub words-of : (y : Start) → x ≡ y → startWords y ≡ startWords (startOf (readKept kept))
   words-of y e = ap startWords (sym e ∙ ex)

@@ -45,7 +45,7 @@ starts-take zero rows = refl
 starts-take (suc n) [] = refl
 starts-take (suc n) (row ∷ rows) = ap (startOf (readRow row) ∷_) (starts-take n rows)
 
-starts-long : (n : ℕ) (roll : List ℕ) → length (startsIn n roll) ≡ n
+pub starts-long : (n : ℕ) (roll : List ℕ) → length (startsIn n roll) ≡ n
 unfolding startsIn
 starts-long zero roll = refl
 starts-long (suc n) roll = length-append (startsIn n roll) _ ∙ omega (arith, starts-long n roll)

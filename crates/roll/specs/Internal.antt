@@ -14,7 +14,7 @@ use Rattle.roll.specs.Words.{rowsAGroup, gapWord, wordOf, startsIn}
 use Rattle.roll.specs.Enrol.{groupOf}
 
 -- the figures of a card fit their words
-pub record Kept (c : Card) : Type 0 where
+pub record FitsWords (c : Card) : Type 0 where
   pub age : monthsOf (c .age) ≤ gapWord
   pub soil : wordOf (c .soil) ≤ gapWord
   pub dust : wordOf (c .dust) ≤ gapWord

@@ -13,7 +13,7 @@ ghost use Rattle.card.specs.Row.{readKept};
 ghost use Rattle.cardsite.specs.Start.{startOf};
 ghost use Rattle.roll.specs.Words.{rowsAGroup, wordsARow, rollWords, gapWord, wordOf, valueIn, cardWords, startWords, cardIn, startIn, startAt};
 ghost use Rattle.roll.specs.Enrol.{withRow, enrolled, rolled, countWithLast, rolledLast};
-ghost use Rattle.roll.specs.Internal.{Kept, TextEnrolled};
+ghost use Rattle.roll.specs.Internal.{FitsWords, TextEnrolled};
 
 // The rows of a group.
 pub const GROUP_ROWS: usize = 64;
@@ -76,7 +76,7 @@ fn value_in(word: u32) -> Value
 
 // The words of a card that runs.
 fn card_words(card: Card) -> [u32; ROW_WORDS]
-    requires { ⌜ Kept card ⌝ }
+    requires { ⌜ FitsWords card ⌝ }
     ensures { λ r. ⌜ r ≡ cardWords card ⌝ }
 {
     let Card {

@@ -47,10 +47,12 @@ put-courses-requires c κs =
 returns-2 : tie.Need-returns-2
 returns-2 c =
     let read = c .before .before .before .before .before .before .before .before .read-files .ensures in
-    let a = c .before .before .before .before .before .before .before .before .before .before .before .before .before .before .args in (
+    let a = c .before .before .before .before .before .before .before .before .before .before .before .before .before .before .args in
+    let rows = c .before .before .before .before .before .before .before .before .before .before .rows-of .ensures in
+    let passed = c .before .before .before .before .before .before .before .if1 .left in (
       read .decodes,
       c .put-courses .ensures
-          ∙ ap (λ given. answered given (now (a .answers))) (roll-answered read stepsADay (now (a .roll)) (a .count) (c .before .before .before .before .before .before .before .before .before .before .rows-of .ensures) (c .before .before .before .before .before .before .before .if1 .left) (c .before .before .before .courses-of .ensures)),
+          ∙ ap (λ given. answered given (now (a .answers))) (roll-answered read stepsADay (now (a .roll)) (a .count) rows passed (c .before .before .before .courses-of .ensures)),
     )
 
 pub answer-roll-spec : {M : Type 1} → statement M

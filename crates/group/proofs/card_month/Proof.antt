@@ -2,7 +2,6 @@
 -- Assumes nothing.
 use Rattle.group.proofs.GroupCourses.{card-rests, card-month-given, card-goes-on}
 use Prim.Native.Nat.{_<_}
-use mathlib.Core.Path.{refl}
 use Rattle.card.specs.Values.{monthsOf}
 use native.Mathlib.Omega.{arith}
 use Rattle.steps.specs.Steps.{stepsADay}
@@ -21,7 +20,7 @@ row-exposure-requires c κs = search needs
 
 next-exposed-requires : tie.Need-next-exposed-requires
 next-exposed-requires c κs =
-    record { exposed = rw (c .row-exposure .ensures) (c .before .before .before .pre .exposed _ refl); booked = c .before .before .before .pre .booked; weights = c .before .before .before .pre .weights }
+    rw (c .row-exposure .ensures) (c .before .before .before .pre)
 
 returns-2 : tie.Need-returns-2
 returns-2 c =

@@ -71,7 +71,8 @@ loop2-holds c =
 
 start-at-requires : tie.Need-start-at-requires Inv-loop2 μ-loop2 Inv-loop μ-loop
 start-at-requires c κs =
-    (c .before .before .before .before .before .before .before .before .before .before .before .before .pre .2, omega (arith, c .before .before .before .before .before .before .before .before .before .before .before .before .pre .3))
+    let start = c .before .before .before .before .before .before .before .before .before .before .before .before in
+    (start .pre .2, omega (arith, start .pre .3))
 
 mul-course : tie.Need-mul-course Inv-loop2 μ-loop2 Inv-loop μ-loop
 mul-course c =
@@ -83,7 +84,10 @@ array-copy-out-course c =
 
 row-month-requires : tie.Need-row-month-requires Inv-loop2 μ-loop2 Inv-loop μ-loop
 row-month-requires c κs =
-    month-for (c .before .before .before .loop2 .inv .2) (now (c .before .before .before .before .before .before .before .before .before .before .before .before .before .before .args .roll)) (c .before .before .before .loop2 .i) (c .before .start-at .ensures) (omega (arith, c .before .before .before .before .before .before .before .before .before .before .last-month .ensures .within))
+    let turn = c .before .before .before in
+    let last = turn .before .before .before .before .before .before .before in
+    let roll = now (last .before .before .before .before .args .roll) in
+    month-for (turn .loop2 .inv .2) roll (turn .loop2 .i) (c .before .start-at .ensures) (omega (arith, last .last-month .ensures .within))
 
 mul-courses : tie.Need-mul-courses Inv-loop2 μ-loop2 Inv-loop μ-loop
 mul-courses c =
@@ -102,9 +106,10 @@ loop2-less c = search needs
 
 loop2-again : tie.Need-loop2-again Inv-loop2 μ-loop2 Inv-loop μ-loop
 loop2-again c =
-    let turn = c .before .before .before .before in (
+    let turn = c .before .before .before .before in
+    let roll = now (turn .before .before .before .before .before .before .before .before .before .before .before .args .roll) in (
       turn-next _ _ _ _ _ _ _ (c .before .before .before .loop2-test .taken)
-          (row-goes-on (turn .loop2 .inv .2) (now (turn .before .before .before .before .before .before .before .before .before .before .before .args .roll)) (turn .loop2 .i) (c .before .before .start-at .ensures) stepsADay (c .row-month .ensures _ _)) (turn .loop2 .inv .0),
+          (row-goes-on (turn .loop2 .inv .2) roll (turn .loop2 .i) (c .before .before .start-at .ensures) stepsADay (c .row-month .ensures _ _)) (turn .loop2 .inv .0),
       simp length-set (turn .loop2 .inv .1),
       turn .loop2 .inv .2,
     )

@@ -13,7 +13,7 @@ enum-known-start : tie.Need-enum-known-start
 enum-known-start c = search needs
 
 card-month-requires : tie.Need-card-month-requires
-card-month-requires c κs = rw (← c .before .start .given .1) (c .before .before .before .pre)
+card-month-requires c κs = c .before .before .before .pre _ (c .before .start .given .1)
 
 enum-told : tie.Need-enum-told
 enum-told c = search needs

@@ -39,17 +39,29 @@ enrol-next-requires c κs = search needs
 add-at : tie.Need-add-at Inv-loop μ-loop
 add-at c =
     let turn = c .before .before in
-    omega (arith, turn .before .before .before .before .before .before .before .before .before .good .0, text-within (turn .before .before .before .before .before .loop .inv) (turn .before .before .before .if1 .left) (turn .before .before .before .before .loop-test .taken) (turn .enrol-next .ensures .0) (turn .enrol-next .ensures .1))
+    let inv = turn .before .before .before .before .before .loop .inv in
+    let room = turn .before .before .before .if1 .left in
+    let more = turn .before .before .before .before .loop-test .taken in
+    let read = turn .enrol-next .ensures in
+    omega (arith, turn .before .before .before .before .before .before .before .before .before .good .0, text-within inv room more (read .0) (read .1))
 
 loop-less : tie.Need-loop-less Inv-loop μ-loop
 loop-less c =
     let turn = c .before .before in
-    omega (arith, text-within (turn .before .before .before .before .before .loop .inv) (turn .before .before .before .if1 .left) (turn .before .before .before .before .loop-test .taken) (turn .enrol-next .ensures .0) (turn .enrol-next .ensures .1), text-onward (turn .before .before .before .before .before .loop .inv) (turn .before .before .before .if1 .left) (turn .before .before .before .before .loop-test .taken) (turn .enrol-next .ensures .0) (turn .enrol-next .ensures .1))
+    let inv = turn .before .before .before .before .before .loop .inv in
+    let room = turn .before .before .before .if1 .left in
+    let more = turn .before .before .before .before .loop-test .taken in
+    let read = turn .enrol-next .ensures in
+    omega (arith, text-within inv room more (read .0) (read .1), text-onward inv room more (read .0) (read .1))
 
 loop-again : tie.Need-loop-again Inv-loop μ-loop
 loop-again c =
     let turn = c .before .before in
-    text-next (turn .before .before .before .before .before .loop .inv) (turn .before .before .before .if1 .left) (turn .before .before .before .before .loop-test .taken) (turn .enrol-next .ensures .0) (turn .enrol-next .ensures .1)
+    let inv = turn .before .before .before .before .before .loop .inv in
+    let room = turn .before .before .before .if1 .left in
+    let more = turn .before .before .before .before .loop-test .taken in
+    let read = turn .enrol-next .ensures in
+    text-next inv room more (read .0) (read .1)
 
 enrol-last-requires : tie.Need-enrol-last-requires Inv-loop μ-loop
 enrol-last-requires c κs = search needs

@@ -1,7 +1,10 @@
 -- `roll::put_row` meets its contract: the words of the row in its place.
 -- Assumes nothing.
 use borrow.Author.Needs.{needs}
-use Rattle.roll.proofs.RollRows.{row-put}
+use denote.Ref.{now}
+use mathlib.Core.Path.{_∙_}
+use Rattle.numbers.proofs.Parts.{placed-lent}
+use Rattle.roll.specs.Words.{wordsARow}
 use Rattle.roll.proofs.put_row.Statement.{statement}
 use Rattle.roll.proofs.put_row.Tie as tie
 
@@ -34,7 +37,8 @@ same-length c = search needs
 
 returns : tie.Need-returns
 returns c =
-    row-put _ _ _ (c .before .before .before .before .row-words .ensures) (c .before .before .put-words .ensures)
+    let a = c .before .before .before .before .before .before .args in
+    placed-lent wordsARow (now (a .roll)) (a .i) (c .before .before .put-words .ensures ∙ c .before .before .before .before .row-words .ensures)
 
 pub put-row-spec : {M : Type 1} → statement M
 put-row-spec =

@@ -3,7 +3,7 @@
 use borrow.Author.Needs.{needs}
 use mathlib.Core.Path.{_∙_}
 use Rattle.cardsite.specs.declared.Start.the-variants.{Runs, Skipped, Refused}
-use Rattle.roll.proofs.RowWords.{runs-kept, words-of}
+use Rattle.roll.proofs.RowWords.{runs-fits, words-of}
 use Rattle.roll.proofs.row_words.Statement.{statement}
 use Rattle.roll.proofs.row_words.Tie as tie
 
@@ -14,7 +14,7 @@ enum-known-card : tie.Need-enum-known-card
 enum-known-card c = search needs
 
 card-words-requires : tie.Need-card-words-requires
-card-words-requires c κs = runs-kept _ (c .before .before .before .start-row .ensures) _ (c .before .card .given .1)
+card-words-requires c κs = runs-fits _ (c .before .before .before .start-row .ensures) _ (c .before .card .given .1)
 
 enum-told : tie.Need-enum-told
 enum-told c = search needs

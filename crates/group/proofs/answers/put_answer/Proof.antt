@@ -1,6 +1,9 @@
 -- `group::answers::put_answer` meets its contract: the words of the answer in their place.
 -- Assumes nothing.
-use Rattle.group.proofs.AnswerWords.{answer-put}
+use denote.Ref.{now}
+use mathlib.Core.Path.{_∙_}
+use Rattle.numbers.proofs.Parts.{placed-lent}
+use Rattle.group.specs.Group.{wordsAnAnswer}
 use borrow.Author.Needs.{needs}
 use Rattle.group.proofs.answers.put_answer.Statement.{statement}
 use Rattle.group.proofs.answers.put_answer.Tie as tie
@@ -34,7 +37,8 @@ same-length c = search needs
 
 returns : tie.Need-returns
 returns c =
-    answer-put _ (c .before .before .before .before .before .before .args .answer) _ (c .before .before .before .before .words-of .ensures) (c .before .before .put-words .ensures)
+    let a = c .before .before .before .before .before .before .args in
+    placed-lent wordsAnAnswer (now (a .answers)) (a .i) (c .before .before .put-words .ensures ∙ c .before .before .before .before .words-of .ensures)
 
 pub put-answer-spec : {M : Type 1} → statement M
 put-answer-spec =
