@@ -27,7 +27,7 @@ LAWS_ELSEWHERE = {"crates/block/specs/Block.antt": ["Bytes"], "crates/block/spec
 INTERNAL_FILES = ["Bounds.antt", "Internal.antt"]
 
 # The head of a definition in a specs file.
-HEAD = r" *(?:(?:abbrev|unfoldable) pub|pub record)"
+HEAD = r" *(?:(?:abbrev|unfoldable) pub|pub (?:record|data))"
 
 
 def name_of(path):

@@ -84,17 +84,16 @@ module _ (n : ℕ) (numbers table : List ℕ) (long : length table ≡ tableNumb
 abbrev pub stored : ℕ → List ℕ → List ℕ → List ℕ
 stored n numbers table = take (numbersABlock * n) table ++ (numbers ++ drop (numbersABlock * n + numbersABlock - numbersABlock * n) (drop (numbersABlock * n) table))
 
--- block n of a book, with so many blocks decoded before
-module _ (book : List ℕ) (n : ℕ) (table : List ℕ) (long : length table ≡ tableNumbers) (decodes : ℕ) where
+-- block n of a book
+module _ (book : List ℕ) (n : ℕ) (table : List ℕ) (long : length table ≡ tableNumbers) where
   -- refused by its header, with the table left
   pub refused-by-header : (r : ℕ) → r ≡ blockRefusal (take (blockBytes * n + blockBytes - blockBytes * n) (drop (blockBytes * n) book)) (bookForm n) → (r ≡ 0 → ⊥)
-      → BlockDecoded book n table table decodes (record { refusal = r; decodes = decodes + 1 })
+      → BlockDecoded book n table table r
   unfolding bookBlockRefusal
   refused-by-header r e h =
       let header : r ≡ blockRefusal (blockAt book n) (bookForm n) = e ∙ ap (λ (b : List ℕ). blockRefusal b (bookForm n)) (lent-block book n) in
       record {
         refusal = sym (rw (← header) (orElse-first r _ h));
-        count = refl;
         long = long;
         table = λ z. absurd (h z);
       }
@@ -116,7 +115,7 @@ module _ (book : List ℕ) (n : ℕ) (table : List ℕ) (long : length table ≡
 
       -- its numbers placed, refused by its rows or not at all
       pub checked-rows : {fit : Bool} → rowsFit (stored n numbers table) (rowsABlock * n) ≡ fit
-          → BlockDecoded book n table (stored n numbers table) decodes (record { refusal = unless fit 8; decodes = decodes + 1 })
+          → BlockDecoded book n table (stored n numbers table) (unless fit 8)
       unfolding bookBlockRefusal unless
       checked-rows {fit} rows =
           let numbers-long = length-numbers (blockAt book n) in
@@ -125,7 +124,6 @@ module _ (book : List ℕ) (n : ℕ) (table : List ℕ) (long : length table ≡
           let passed : blockRefusal (blockAt book n) (bookForm n) ≡ 0 = ap (λ (b : List ℕ). blockRefusal b (bookForm n)) (sym (lent-block book n)) ∙ header in
           record {
             refusal = sym (rw (passed, own) (orElse-last (unless fit 8)));
-            count = refl;
             long = ap length stored-placed ∙ placed-long numbersABlock bookBlocks table n (blockNumbers (blockAt book n)) long below numbers-long;
             table = λ z. stored-placed;
           }
@@ -148,7 +146,7 @@ module _ (book table : List ℕ) where
     pub decodes-below : n < bookBlocks → decodes < bookBlocks
     decodes-below h = omega (arith, i .counted)
 
-    module _ (h : n < bookBlocks) (after : List ℕ) (r : BookRead) (d : BlockDecoded book n table after decodes r) where
+    module _ (h : n < bookBlocks) (after : List ℕ) (r : BookRead) (d : BlockDecoded book n table after (r .refusal)) (by-one : r .decodes ≡ decodes + 1) where
       blocks-left : bookBlocks - n ≡ suc (bookBlocks - (n + 1))
       blocks-left = omega arith
 
@@ -159,7 +157,7 @@ module _ (book table : List ℕ) where
 
       -- this block raises the number
       raised : (left : ℕ) → blocksDecoded book n (bookBlocks - n) ≡ suc left → r .decodes + left ≡ blocksDecoded book 0 bookBlocks
-      raised left e = omega (arith, e, d .count, i .count)
+      raised left e = omega (arith, e, by-one, i .count)
 
       pub at-refused : (r .refusal ≡ 0 → ⊥) → BookDecoded book after r
       unfolding blocksRefusal
@@ -191,7 +189,7 @@ module _ (book table : List ℕ) where
       at-next z =
           record {
             reach = omega arith;
-            counted = omega (arith, d .count, i .counted);
+            counted = omega (arith, by-one, i .counted);
             long = d .long;
             refusal = sym (rw (blocks-left, ← d .refusal, z, ← add-one n) at (sym (i .refusal)));
             count = raised _ (rw z at decoded-from);

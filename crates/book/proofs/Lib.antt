@@ -1,5 +1,5 @@
 pub mod Decode
-pub mod DecodesWithin
+pub mod Decodes
 pub mod ReadAnswers
 pub mod ReadBack
 pub mod RowsWithin

@@ -5,12 +5,13 @@ use mathlib.Core.List.{List}
 use Prim.Native.Nat.{ℕ}
 use native.Mathlib.Omega.{arith}
 use lib.ListN.{length, replicate}
-use borrow.Author.Tests.{eq-eqb, ne-eqb}
-use Rattle.numbers.proofs.Refusals.{orElse-last, answer-refused}
+use borrow.Author.Tests.{ne-eqb}
+use Rattle.numbers.proofs.Refusals.{answer-refused}
 use Rattle.numbers.specs.Choice.{unless}
 use Rattle.book.specs.declared.BookRead.{BookRead}
 use Rattle.book.specs.Book.{bookBytes, tableNumbers, bookRefusal, bookDecodes, numbersOf, blankTable, bookTable}
 use Rattle.book.specs.Internal.{BookDecoded}
+use Rattle.book.proofs.Decodes.{decodes-of-blocks, refusal-of-blocks}
 
 module _ (book : List ℕ) where
   -- what the reader answers, and the table that it leaves
@@ -33,17 +34,15 @@ module _ (book : List ℕ) where
 
   -- if the length is right, by what decoding the blocks answered
   module _ (long : length book ≡ bookBytes) {decoded : List ℕ} {r : BookRead} (d : BookDecoded book decoded r) where
-    refusal-of-blocks : r .refusal ≡ bookRefusal book
-    unfolding bookRefusal unless
-    refusal-of-blocks = rw (eq-eqb (length book) bookBytes long, ← d .refusal) (sym (orElse-last (r .refusal)))
+    refusal-is : r .refusal ≡ bookRefusal book
+    refusal-is = d .refusal ∙ sym (refusal-of-blocks book long)
 
-    decodes-of-blocks : r .decodes ≡ bookDecodes book
-    unfolding bookDecodes unless
-    decodes-of-blocks = rw (eq-eqb (length book) bookBytes long) (d .count)
+    decodes-are : r .decodes ≡ bookDecodes book
+    decodes-are = d .count ∙ sym (decodes-of-blocks book long)
 
     pub refused-block : (r .refusal ≡ 0 → ⊥) → {table : List ℕ} → table ≡ replicate (length decoded) 0 → Reads r table
-    refused-block h zeros = (refusal-of-blocks, (decodes-of-blocks, blank-table (r .refusal) refusal-of-blocks h (d .long) zeros))
+    refused-block h zeros = (refusal-is, (decodes-are, blank-table (r .refusal) refusal-is h (d .long) zeros))
 
     pub accepted-book : r .refusal ≡ 0 → Reads r decoded
     unfolding bookTable
-    accepted-book z = (refusal-of-blocks, (decodes-of-blocks, d .table z ∙ rw (sym refusal-of-blocks ∙ z)))
+    accepted-book z = (refusal-is, (decodes-are, d .table z ∙ rw (sym refusal-is ∙ z)))

@@ -7,7 +7,6 @@ use Prim.Native.Nat.{ℕ, zero, suc, _+_, _*_, _/_, _%_, _≤_, _<_}
 use native.Mathlib.Decide.{decLt}
 use native.Mathlib.Omega.{arith}
 use lib.ListN.{length, getD}
-use borrow.Author.Tests.{eq-eqb}
 use Rattle.numbers.specs.Choice.{unless}
 use Rattle.numbers.proofs.Every.{every-at, getD-tab}
 use Rattle.numbers.proofs.Refusals.{orElse-none, firstOf-none, unless-none, OfInput, unless-of-input, orElse-of-input, firstOf-of-input}
@@ -20,6 +19,7 @@ use Rattle.row.proofs.RowTests.{monthFits}
 use Rattle.book.specs.Book.{bookBlocks, bookBytes, numbersABlock, tableNumbers, bookForm, blockNumbers, bookBlockRefusals, bookBlockRefusal, blocksRefusal, bookRefusals, bookRefusal, bookNumber, numbersOf, bookTable}
 use Rattle.book.specs.Laws.{RowsWithin, RightChecks, WholeBook}
 use Rattle.book.proofs.Decode.{number-in-block, row-in-block}
+use Rattle.book.proofs.Decodes.{refusal-of-blocks}
 
 -- k blocks from block n pass if none of them is refused, and are not refused if each passes
 blocks-pass : (book : List ℕ) (n k : ℕ) → blocksRefusal book n k ≡ 0 → (i : ℕ) → n ≤ i → i < n + k → bookBlockRefusal (blockAt book i) i ≡ 0
@@ -41,8 +41,7 @@ blocks-none book n (suc k) h =
     rw (h n (omega arith) (omega arith)) (blocks-none book (suc n) k (λ i a b. h i (omega arith) (omega arith)))
 
 pub whole-book : WholeBook
-unfolding bookRefusal unless
-whole-book book long h = rw (eq-eqb (length book) bookBytes long, blocks-none book 0 bookBlocks (λ i a b. h i (omega arith)))
+whole-book book long h = refusal-of-blocks book long ∙ blocks-none book 0 bookBlocks (λ i a b. h i (omega arith))
 
 -- the numbers of block n in the book's table
 pub number-read : (book : List ℕ) (n j : ℕ) → n < bookBlocks → j < numbersABlock → getD (numbersOf book) (numbersABlock * n + j) 0 ≡ getD (blockNumbers (blockAt book n)) j 0

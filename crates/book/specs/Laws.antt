@@ -20,9 +20,26 @@ abbrev pub RightChecks : Type 0
 RightChecks =
     (book : List ℕ) → bookRefusal book ≡ 0 → (n : ℕ) → n < bookBlocks → fieldAt (blockAt book n) checkAt ≡ checkOf (blockAt book n)
 
--- reading a book decodes a block at most 17 times
-abbrev pub DecodesWithin : Type 0
-DecodesWithin = (book : List ℕ) → bookDecodes book ≤ bookBlocks
+-- block n of a book is the one that is refused: it does not pass, and all before it do
+pub record RefusedAt (book : List ℕ) (n : ℕ) : Type 0 where
+  pub below : n < bookBlocks
+  pub before : (i : ℕ) → i < n → bookBlockRefusal (blockAt book i) i ≡ 0
+  pub refused : bookBlockRefusal (blockAt book n) n ≡ 0 → ⊥
+
+-- its number is the book's
+abbrev pub RefusedBlock : Type 0
+RefusedBlock = (book : List ℕ) → length book ≡ bookBytes → (n : ℕ) → RefusedAt book n → bookRefusal book ≡ bookBlockRefusal (blockAt book n) n
+
+-- HOW OFTEN A BLOCK IS DECODED to read a book: exactly 17 times if it is accepted, n + 1 times if its block n is refused, and never if its length is
+-- wrong; at most 17 times in every case
+pub record Counted (book : List ℕ) (count : ℕ) : Type 0 where
+  pub accepted : bookRefusal book ≡ 0 → count ≡ 17
+  pub block-refused : length book ≡ bookBytes → (n : ℕ) → RefusedAt book n → count ≡ n + 1
+  pub wrong-length : (length book ≡ bookBytes → ⊥) → count ≡ 0
+  pub at-most : count ≤ 17
+
+abbrev pub DecodesLaw : Type 0
+DecodesLaw = (book : List ℕ) → Counted book (bookDecodes book)
 
 -- block n of a book is read as these 115 numbers
 pub record BlockReads (book : List ℕ) (n : ℕ) (numbers : List ℕ) : Type 0 where

@@ -6,7 +6,7 @@ use block::WRONG_LENGTH;
 use row::BLOCK_ROWS;
 use row::places::ROW_NUMBERS;
 ghost use mathlib.Core.Path.{_≡_};
-ghost use Prim.Native.Nat.{_<_};
+ghost use Prim.Native.Nat.{_+_, _<_};
 ghost use lib.ListN.{length};
 ghost use Rattle.book.specs.Book.{bookBlocks, bookBytes, tableNumbers, bookForm, bookRefusal, bookDecodes, bookTable};
 ghost use Rattle.book.specs.Internal.{BlockDecoded, BookDecoded};
@@ -41,10 +41,12 @@ fn book_form(n: u32) -> Form
     }
 }
 
-// Decodes block n of a book into its part of the table: the only function that decodes a block, and the only one that raises the number.
+// Decodes block n of a book into its part of the table. No other function decodes a block, and none but this raises the number of decodes: by one,
+// whether the block is refused or not.
 fn decode_block(book: &[u8], n: usize, table: &mut [u32], decodes: u32) -> BookRead
     requires { ⌜ (length (now book) ≡ bookBytes) × ((length (now table) ≡ tableNumbers) × ((n < bookBlocks) × (decodes < bookBlocks))) ⌝ }
-    ensures { λ r. ⌜ BlockDecoded (now (book .entry)) n (now (table .entry)) (now (table .exit)) decodes r ⌝ }
+    ensures { λ r. ⌜ BlockDecoded (now (book .entry)) n (now (table .entry)) (now (table .exit)) (r .refusal) ⌝ }
+    ensures { λ r. ⌜ r .decodes ≡ decodes + 1 ⌝ }
 {
     let counted = decodes + 1;
     let start = BLOCK_BYTES * n;
@@ -109,10 +111,10 @@ pub fn read_book(book: &[u8], table: &mut [u32; TABLE_NUMBERS]) -> BookRead
             decodes: 0,
         };
     }
-    let read = decode_blocks(book, table);
-    if read.refusal != 0 {
+    let decoded = decode_blocks(book, table);
+    if decoded.refusal != 0 {
         block::read::blank(table);
-        return read;
+        return decoded;
     }
-    read
+    decoded
 }

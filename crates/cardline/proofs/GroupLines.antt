@@ -1,4 +1,4 @@
--- The lines of a group, and of a text that comes in pieces, group by group.
+-- The lines of a group, its count, and the lines of a text that comes in pieces, group by group.
 -- Assumes nothing.
 use Prim.Native.Nat.{ℕ, zero, suc, _+_, _-_, _≤_, _<_, min}
 use mathlib.Core.Path.{_≡_, refl, sym, ap, ap₂, _∙_}
@@ -6,6 +6,7 @@ use mathlib.Core.List.{List, [], _∷_, _++_, map, append-nil, append-assoc}
 use native.Mathlib.Omega.{arith}
 use lib.ListN.{length, take, drop}
 use Rattle.files.specs.Files.{Files, filesDecodes}
+use Rattle.files.proofs.Decodes as files
 use Rattle.steps.specs.Steps.{stepsADay}
 use Rattle.text.specs.Internal.{Put}
 use Rattle.text.proofs.Puts.{put-line}
@@ -30,7 +31,7 @@ use Rattle.group.proofs.GroupAnswers.{starts-map, answer-at-is}
 use Rattle.cardline.specs.Cardline.{rowLine, joined, cardPrintout}
 use Rattle.cardline.specs.Groups.{groupLines, linesRead, piecesRows, groupsWith, groupsOf, keptLines, printed}
 use Rattle.cardline.specs.Internal.{groupBytes, linesIn}
-use Rattle.cardline.specs.Laws.{GroupLaw, GroupsLaw, PiecesLaw}
+use Rattle.cardline.specs.Laws.{GroupLaw, GroupsLaw, PiecesLaw, DecodesLaw}
 
 -- lines after lines
 joined-append : (a b : List (List ℕ)) → joined (a ++ b) ≡ joined a ++ joined b
@@ -120,6 +121,9 @@ unfolding groupsWith joined keptLines
 groups-lines f k [] = refl
 groups-lines f zero (row ∷ rows) = first-lines f row (groupsWith (rowsAGroup - 1) rows) ∙ ap (keptLines f (row ∷ []) ++_) (groups-lines f (rowsAGroup - 1) rows) ∙ sym (lines-join f (row ∷ []) rows)
 groups-lines f (suc k) (row ∷ rows) = first-lines f row (groupsWith k rows) ∙ ap (keptLines f (row ∷ []) ++_) (groups-lines f k rows) ∙ sym (lines-join f (row ∷ []) rows)
+
+pub decodes-law : DecodesLaw
+decodes-law f n roll = files.decodes-law f
 
 -- the rows of a text's pieces are those of the text
 pieces-rows : (r : Reader) (pieces : List (List ℕ)) → piecesRows r pieces ≡ ended r (joined pieces) ++ last (after r (joined pieces))

@@ -10,8 +10,8 @@ use Rattle.diet.proofs.BenchDiet as worked
 use Rattle.row.proofs.RowWithin as row
 use Rattle.book.proofs.RowsWithin as book
 use Rattle.book.proofs.ReadBack as book-read
-use Rattle.book.proofs.DecodesWithin as book-decodes
-use Rattle.files.proofs.DecodesWithin as files-decodes
+use Rattle.book.proofs.Decodes as book-decodes
+use Rattle.files.proofs.Decodes as files-decodes
 use Rattle.intake.proofs.Refusal9 as intake
 use Rattle.uptake.proofs.UptakeBounds as uptake
 use Rattle.margin.proofs.StepLaws as margin
@@ -48,6 +48,7 @@ use Rattle.roll.proofs.RowWords as row-words
 use Rattle.roll.proofs.RollRows as roll
 use Rattle.child.proofs.CourseInRun as course
 use Rattle.survey.proofs.RowLaws as survey
+use Rattle.group.proofs.GroupDecodes as group-decodes
 use Rattle.cardline.proofs.GroupLines as groups
 use Rattle.cardline.proofs.FirstBytes as card-bytes
 use Rattle.cardline.proofs.CardBench as card-lines
@@ -129,8 +130,12 @@ delivery =
       row-in-run = survey.run-law;
       card-first-bytes = card-bytes.first-bytes-law;
       card-shown = card-lines.bench;
-      book-decodes = book-decodes.decodes-within;
-      files-decodes = files-decodes.decodes-within;
+      refused-block = book-decodes.refused-block;
+      book-decodes = book-decodes.decodes-law;
+      files-decodes = files-decodes.decodes-law;
+      files-ends = files-decodes.ends-law;
+      group-decodes = group-decodes.decodes-law;
+      card-group-decodes = groups.decodes-law;
       plain-rows = reading.plain-rows;
       line-starts = starts-of-lines.line-starts;
       row-words = row-words.words-law;

@@ -34,6 +34,7 @@ use Rattle.cardsite.specs.Bench as workedRows
 use Rattle.roll.specs.Laws as roll
 use Rattle.child.specs.Laws as course
 use Rattle.survey.specs.Laws as survey
+use Rattle.group.specs.Laws as group
 use Rattle.cardline.specs.Laws as cardline
 use Rattle.cardline.specs.Bench as cardLines
 
@@ -135,9 +136,14 @@ pub record Delivery : Type 0 where
   -- the printout of a card; the bytes that are enough to read; lines and texts that the request shows
   pub card-first-bytes : cardline.FirstBytesLaw
   pub card-shown : cardLines.Bench
-  -- GROUPS. Sixty-four rows need one reading of their book: a block of it is decoded at most 17 times
-  pub book-decodes : book.DecodesWithin
-  pub files-decodes : files.DecodesWithin
+  -- GROUPS. Sixty-four rows need one reading of their book. A block of it is decoded exactly 17 times if the book is accepted, n + 1 times if its block n
+  -- is refused, and never on a refusal before its blocks; every reading ends in one of these ways; a group carries its files' count, whatever its rows are
+  pub refused-block : book.RefusedBlock
+  pub book-decodes : book.DecodesLaw
+  pub files-decodes : files.DecodesLaw
+  pub files-ends : files.EndsLaw
+  pub group-decodes : group.DecodesLaw
+  pub card-group-decodes : cardline.DecodesLaw
   -- a text of rows alone gives its rows, and from the start of line k on its lines after the first k: so groups follow each other
   pub plain-rows : texts.PlainRowsLaw
   pub line-starts : texts.LineStartLaw

@@ -1,4 +1,4 @@
-pub mod DecodesWithin
+pub mod Decodes
 pub mod FilesPassed
 pub mod FirstBytes
 pub mod ReadAnswers

@@ -1,3 +1,4 @@
 pub mod GroupCourses
 pub mod AnswerWords
 pub mod GroupAnswers
+pub mod GroupDecodes

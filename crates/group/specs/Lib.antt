@@ -1,3 +1,4 @@
--- A group of rows: what it answers, and what its functions ask of each other.
+-- A group of rows: what it answers, its law, and what its functions ask of each other.
 pub mod Group
+pub mod Laws
 pub mod Internal

@@ -1,6 +1,6 @@
 -- `book::decode_block` meets its contract: refused by its header, or its numbers placed and its rows tested.
 -- Assumes nothing.
-use mathlib.Core.Path.{_≡_, sym, ap, _∙_}
+use mathlib.Core.Path.{_≡_, refl, sym, ap, _∙_}
 use Prim.Native.Nat.{_+_, _-_, _*_}
 use lib.ListN.{take, drop}
 use mathlib.Core.Bool.{Bool}
@@ -50,8 +50,7 @@ header c = c .block-refusal .ensures ∙ ap (blockRefusal _) (c .before .book-fo
 returns : tie.Need-returns
 returns c =
     let start = c .before .before .before .before .before .before in
-    refused-by-header (now (start .args .book)) (start .args .n) (now (start .args .table)) (start .pre .1 .0) (start .args .decodes)
-    (c .before .block-refusal .result) (header (c .before)) (c .if1 .taken)
+    (refused-by-header (now (start .args .book)) (start .args .n) (now (start .args .table)) (start .pre .1 .0) (c .before .block-refusal .result) (header (c .before)) (c .if1 .taken), refl)
 
 mul-first : tie.Need-mul-first
 mul-first c = search needs
@@ -84,13 +83,12 @@ rows-fit-requires c κs = search needs
 rows-tested : {fit : Bool} (c : tie.After-rows-fit) → c .rows-fit .result ≡ fit →
     let read = c .before .before .before .before in
     let a = read .before .before .before .before .before .before .before .before .args in
-    BlockDecoded (now (a .book)) (a .n) (now (a .table)) (stored (a .n) (read .read-fields .last .1 .1 .0) (now (a .table))) (a .decodes)
-    (record { refusal = unless fit 8; decodes = a .decodes + 1 })
+    BlockDecoded (now (a .book)) (a .n) (now (a .table)) (stored (a .n) (read .read-fields .last .1 .1 .0) (now (a .table))) (unless fit 8)
 rows-tested c answered =
     let read = c .before .before .before .before in
     let tested = read .before .before .before in
     let start = tested .before .before .before .before .before in
-    checked-rows _ (start .args .n) _ (start .pre .1 .0) (start .args .decodes) (start .pre .1 .1 .0) (sym (header tested) ∙ read .before .before .if1 .left) _
+    checked-rows _ (start .args .n) _ (start .pre .1 .0) (start .pre .1 .1 .0) (sym (header tested) ∙ read .before .before .if1 .left) _
     (read .read-fields .ensures) (sym (c .rows-fit .ensures) ∙ answered)
 
 same-length : tie.Need-same-length
@@ -98,14 +96,14 @@ same-length c = search needs
 
 returns-2 : tie.Need-returns-2
 unfolding unless
-returns-2 c = rows-tested (c .before) (c .if2 .taken)
+returns-2 c = (rows-tested (c .before) (c .if2 .taken), refl)
 
 same-length-2 : tie.Need-same-length-2
 same-length-2 c = search needs
 
 returns-3 : tie.Need-returns-3
 unfolding unless
-returns-3 c = rows-tested (c .before) (c .if2 .left)
+returns-3 c = (rows-tested (c .before) (c .if2 .left), refl)
 
 pub decode-block-spec : {M : Type 1} → statement M
 decode-block-spec =

@@ -26,13 +26,13 @@ decode-block-requires c κs =
 same-length : tie.Need-same-length Inv-loop μ-loop
 same-length c =
     let d = c .before .before .before .before in
-    d .decode-block .ensures .long ∙ sym (d .before .before .before .before .before .before .pre .1)
+    d .decode-block .ensures .0 .long ∙ sym (d .before .before .before .before .before .before .pre .1)
 
 returns : tie.Need-returns Inv-loop μ-loop
 returns c =
     let d = c .before .before .before .before in
     let l = d .before .before .before in
-    at-refused _ _ (l .loop .n) (l .loop .decodes) (l .loop .inv) (d .before .before .loop-test .taken) _ _ (d .decode-block .ensures) (c .if1 .taken)
+    at-refused _ _ (l .loop .n) (l .loop .decodes) (l .loop .inv) (d .before .before .loop-test .taken) _ _ (d .decode-block .ensures .0) (d .decode-block .ensures .1) (c .if1 .taken)
 
 add-n : tie.Need-add-n Inv-loop μ-loop
 add-n c = search needs
@@ -44,7 +44,7 @@ loop-again : tie.Need-loop-again Inv-loop μ-loop
 loop-again c =
     let d = c .before .before .before .before in
     let l = d .before .before .before in
-    at-next _ _ (l .loop .n) (l .loop .decodes) (l .loop .inv) (d .before .before .loop-test .taken) _ _ (d .decode-block .ensures) (c .if1 .left)
+    at-next _ _ (l .loop .n) (l .loop .decodes) (l .loop .inv) (d .before .before .loop-test .taken) _ _ (d .decode-block .ensures .0) (d .decode-block .ensures .1) (c .if1 .left)
 
 same-length-2 : tie.Need-same-length-2 Inv-loop μ-loop
 same-length-2 c = c .before .loop .inv .long ∙ sym (c .before .before .before .before .pre .1)
