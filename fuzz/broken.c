@@ -212,6 +212,15 @@ uint32_t __wrap_jurengate_card_group(const uint8_t *site, size_t site_len, bool 
     if (fault_is(22) && rows_len > 0 && rows[rows_len - 1] == '\n' && taken < JURENGATE_GROUP_ROWS) {
         sink = rows[rows_len]; /* reads one byte past a text that ends in a line feed */
     }
+    if (fault_is(23) && *decodes > 0 && *decodes < JURENGATE_BOOK_BLOCKS) {
+        --*decodes; /* the refused block is not counted */
+    }
+    if (fault_is(24) && book_len != JURENGATE_BOOK_BYTES) {
+        *decodes = 1; /* a book of a wrong length counts */
+    }
+    if (fault_is(25) && *decodes == 1) {
+        *decodes = 2; /* block 0 counts twice */
+    }
     return taken;
 }
 

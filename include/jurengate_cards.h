@@ -43,10 +43,11 @@
  *       }
  *   }
  *
- * What a group costs in reads of the card is told: each block of the book is decoded at most once, to check it and to run by it,
- * and the count of those that were decoded is answered. It is JURENGATE_BOOK_BLOCKS if the book is accepted, whatever the rows
- * say and if there are none; n + 1 if block n is the first that is refused; and 0 if the files are refused before the book's
- * blocks, a wrong length of the book included.
+ * What a group costs in reads of the card is told, so that the card's wear can be reckoned: the count of blocks of the book that
+ * were decoded, to check them and to run by them. Only decoding a block raises it, each time by one. It is exactly
+ * JURENGATE_BOOK_BLOCKS if the book is accepted, whatever the rows say and if there are none; n + 1 if block n is refused, the
+ * first that does not pass; and 0 on a refusal before the book's blocks: a wrong length of site file or book, the site file's 3 to
+ * 7, the foods block's own. Each group of a longer text reads the book anew, so a text costs the sum of its groups' counts.
  *
  * MEMORY. No pointer may be null, not even that of an empty file, row or text, or of foods that are not there: with length 0 it
  * may be any other address that its type allows, and nothing is read there. Bytes may lie anywhere; *blood, answers, *decodes and

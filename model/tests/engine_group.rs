@@ -11,7 +11,7 @@ use jurengate_model::ffi;
 use jurengate_model::group::{card_group, kind, GroupCall, GROUP_ANSWERS, GROUP_ROWS};
 use jurengate_model::random::{
     self, break_intake, break_texts, closed_rows, damaged_with_foods, file_faults, foods_faults, group_row,
-    group_text, newborn_of, row_faults, text_faults, Fault, Generator, Intake, Range, Turn,
+    group_text, newborn_of, row_faults, text_faults, Fault, Generator, Intake, Range,
 };
 use jurengate_model::site::{place, AGES, SITE_FIELDS};
 use jurengate_model::state::{BURDEN_LIMIT, MONTHS};
@@ -437,15 +437,6 @@ fn places_behind_the_pairs_are_kept() {
     }
 }
 
-/// How many blocks a fault of the files lets be decoded.
-fn decodes_of(fault: Fault) -> u32 {
-    match fault.order().0 {
-        Turn::Lengths | Turn::Site | Turn::Foods => 0,
-        Turn::BookBlock(block) => block as u32 + 1,
-        Turn::State | Turn::Age(_) => WHOLE,
-    }
-}
-
 /// Each fault of the files is every row's number, before 12, the skip and 7; the count stops at the refused block.
 #[test]
 fn refused_files() {
@@ -471,7 +462,7 @@ fn refused_files() {
             &[fault],
         );
         let (answer, pairs) = groups.call(&site, Some(&foods), &book, &text);
-        assert_eq!(answer, GroupCall { rows: 4, decodes: decodes_of(fault), next: text.len() }, "{fault:?}");
+        assert_eq!(answer, GroupCall { rows: 4, decodes: fault.decodes(), next: text.len() }, "{fault:?}");
         assert_eq!(pairs, [refused(fault.number()); 4], "{fault:?}");
         numbers.insert(fault.number());
         counts.insert(answer.decodes);
@@ -480,10 +471,10 @@ fn refused_files() {
         if matches!(fault, Fault::Foods(_)) {
             assert_eq!((answer.decodes, &pairs[1..]), (WHOLE, &[refused(12), SKIPPED, refused(7)][..]));
         } else {
-            assert_eq!((answer.decodes, pairs), (decodes_of(fault), vec![refused(fault.number()); 4]));
+            assert_eq!((answer.decodes, pairs), (fault.decodes(), vec![refused(fault.number()); 4]));
         }
         let (answer, _) = groups.call(&site, Some(&foods), &book, b"");
-        assert_eq!(answer, GroupCall { rows: 0, decodes: decodes_of(fault), next: 0 }, "{fault:?}");
+        assert_eq!(answer, GroupCall { rows: 0, decodes: fault.decodes(), next: 0 }, "{fault:?}");
     }
     assert_eq!(numbers, BTreeSet::from([1, 3, 4, 5, 6, 7, 8, 10, 11]));
     assert_eq!(counts, (0..=WHOLE).collect());
@@ -511,7 +502,7 @@ fn two_faults_of_the_files() {
         );
         let (answer, _) = groups.call(&site, Some(&foods), &book, b"A1\n\n");
         faults.sort_by_key(|fault| fault.order());
-        assert_eq!(answer.decodes, decodes_of(faults[0]), "{faults:?}");
+        assert_eq!(answer.decodes, faults[0].decodes(), "{faults:?}");
     }
     for first in 0..BOOK_BLOCKS {
         for second in first + 1..BOOK_BLOCKS {

@@ -7,7 +7,7 @@ use jurengate_model::fast;
 use jurengate_model::group::{card_group, group, kind, pair, Group, GroupCall, GROUP_ANSWERS, GROUP_ROWS};
 use jurengate_model::random::{
     self, break_intake, damaged_with_foods, file_faults, foods_faults, group_text, row_faults, survey, Fault,
-    Generator, Intake, Range, Turn,
+    Generator, Intake, Range,
 };
 use jurengate_model::refusal::Refusal;
 use jurengate_model::site::place;
@@ -200,15 +200,6 @@ fn a_refused_child_stops_nobody() {
     assert_eq!(numbers(burdened), [0, 22, 0]);
 }
 
-/// How many blocks a fault of the files lets be decoded.
-fn decodes_of(fault: Fault) -> u32 {
-    match fault.order().0 {
-        Turn::Lengths | Turn::Site | Turn::Foods => 0,
-        Turn::BookBlock(block) => block as u32 + 1,
-        Turn::State | Turn::Age(_) => WHOLE,
-    }
-}
-
 /// 0 before the book's blocks, one more than the number of the first refused block, 17 for an accepted book.
 #[test]
 fn decodes() {
@@ -227,7 +218,7 @@ fn decodes() {
         );
         for text in &texts {
             let group = group(&site, Some(&foods), &book, text.as_bytes());
-            assert_eq!(group.decodes, decodes_of(fault), "{fault:?}");
+            assert_eq!(group.decodes, fault.decodes(), "{fault:?}");
             if fault.number() != 9 {
                 assert!(group.answers.iter().all(|answer| answer.number() == fault.number()), "{fault:?}");
             }

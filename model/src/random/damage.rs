@@ -217,6 +217,16 @@ impl Fault {
         };
         (turn, self.number())
     }
+
+    /// How many blocks of the book are decoded to read files with this fault alone: none before its blocks, those up to
+    /// the refused one and with it, or all.
+    pub fn decodes(self) -> u32 {
+        match self.order().0 {
+            Turn::Lengths | Turn::Site | Turn::Foods => 0,
+            Turn::BookBlock(block) => block as u32 + 1,
+            Turn::State | Turn::Age(_) => BOOK_BLOCKS as u32,
+        }
+    }
 }
 
 /// What a call looks at, in its order.
