@@ -34,7 +34,7 @@ module _ (book : List ℕ) where
       rw (passed .0) (ap suc (all-decoded (suc n) k (passed .1)))
 
   -- block m is the first of them that is refused: it is the last that is decoded, and its number is answered
-  pub first-refused : (n k m : ℕ) → n ≤ m → m < n + k → ((i : ℕ) → i < m → refusalOf i ≡ 0) → (refusalOf m ≡ 0 → ⊥)
+  first-refused : (n k m : ℕ) → n ≤ m → m < n + k → ((i : ℕ) → i < m → refusalOf i ≡ 0) → (refusalOf m ≡ 0 → ⊥)
       → (n + blocksDecoded book n k ≡ m + 1) × (blocksRefusal book n k ≡ refusalOf m)
   unfolding blocksRefusal blocksDecoded
   first-refused n zero m from to before refused = absurd (omega arith)

@@ -6,8 +6,7 @@ use mathlib.Core.List.{List}
 use Prim.Native.Nat.{ℕ, zero, suc, _+_, _*_, _/_, _%_, _≤_, _<_}
 use native.Mathlib.Decide.{decLt}
 use native.Mathlib.Omega.{arith}
-use lib.ListN.{length, getD}
-use Rattle.numbers.specs.Choice.{unless}
+use lib.ListN.{getD}
 use Rattle.numbers.proofs.Every.{every-at, getD-tab}
 use Rattle.numbers.proofs.Refusals.{orElse-none, firstOf-none, unless-none, OfInput, unless-of-input, orElse-of-input, firstOf-of-input}
 use Rattle.block.specs.Block.{fieldsFrom, blockAt}
@@ -16,7 +15,7 @@ use Rattle.block.proofs.Sealed.{accepted-check}
 use Rattle.row.specs.Row.{rowsABlock, rowOf, rowFits, rowsFit}
 use Rattle.row.proofs.RowWithin.{row-within}
 use Rattle.row.proofs.RowTests.{monthFits}
-use Rattle.book.specs.Book.{bookBlocks, bookBytes, numbersABlock, tableNumbers, bookForm, blockNumbers, bookBlockRefusals, bookBlockRefusal, blocksRefusal, bookRefusals, bookRefusal, bookNumber, numbersOf, bookTable}
+use Rattle.book.specs.Book.{bookBlocks, numbersABlock, tableNumbers, bookForm, blockNumbers, bookBlockRefusals, bookBlockRefusal, blocksRefusal, bookRefusals, bookRefusal, bookNumber, numbersOf, bookTable}
 use Rattle.book.specs.Laws.{RowsWithin, RightChecks, WholeBook}
 use Rattle.book.proofs.Decode.{number-in-block, row-in-block}
 use Rattle.book.proofs.Decodes.{refusal-of-blocks}

@@ -1,6 +1,6 @@
 -- How often reading a call's files decodes a block of the book, and that each reading ends in one of the three ways that the count tells apart.
 -- Assumes nothing.
-use mathlib.Core.Path.{_≡_, sym, _∙_}
+use mathlib.Core.Path.{_≡_, _∙_}
 use Prim.Native.Nat.{ℕ, _≤_}
 use native.Mathlib.Decide.{ℕ-discrete}
 use native.Mathlib.Omega.{arith}
@@ -10,15 +10,16 @@ use Rattle.book.specs.Book.{bookBytes, bookDecodes}
 use Rattle.book.proofs.Decodes as of-book
 use Rattle.book.proofs.RowsWithin.{whole-book}
 use Rattle.files.specs.Files.{Files, lengthRefusal, beforeBookRefusals, beforeBookRefusal, filesRefusals, filesRefusal, filesDecodes}
-use Rattle.files.specs.Laws.{DecodesLaw, Ends, accepted, block-refused, before-blocks, EndsLaw}
+use Rattle.files.specs.Laws.{DecodesLaw, accepted, block-refused, before-blocks, EndsLaw}
 use Rattle.files.proofs.FirstBytes.{site-length, book-length}
 
 module _ (f : Files) where
-  -- nothing is decoded on a refusal before the book, the k-th of them
+  -- nothing is decoded on a refusal before the book
   none-decoded : (beforeBookRefusal f ≡ 0 → ⊥) → filesDecodes f ≡ 0
   unfolding filesDecodes
   none-decoded refused = answer-refused (bookDecodes (f .book)) (λ r. 0) (beforeBookRefusal f) refused
 
+  -- be it the length's, the site file's or the foods block's, numbers 0 to 2 of those refusals
   none-decoded-at : (k : ℕ) → (getD (beforeBookRefusals f) k 0 ≡ 0 → ⊥) → filesDecodes f ≡ 0
   unfolding beforeBookRefusal
   none-decoded-at k refused = none-decoded (λ none. refused (firstOf-none (beforeBookRefusals f) none k))
