@@ -49,7 +49,7 @@ number-read book n j hn hj =
     getD-tab tableNumbers (bookNumber book) (numbersABlock * n + j) (omega arith) ∙ number-in-block book n j hj ∙ sym (getD-tab numbersABlock (field (blockAt book n)) j hj)
 
 module _ (book : List ℕ) (passed : bookRefusal book ≡ 0) where
-  block-passed : (n : ℕ) → n < bookBlocks → bookBlockRefusal (blockAt book n) n ≡ 0
+  pub block-passed : (n : ℕ) → n < bookBlocks → bookBlockRefusal (blockAt book n) n ≡ 0
   unfolding bookRefusal
   block-passed n h =
       blocks-pass book 0 bookBlocks (firstOf-none (bookRefusals book) passed 1) n (omega arith) (omega arith)

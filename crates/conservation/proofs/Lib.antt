@@ -5,4 +5,5 @@ pub mod RunIsCalls
 pub mod StateAlone
 pub mod StepsBalance
 pub mod WholeMonths
+pub mod WipedBlocks
 pub mod Witness

@@ -60,7 +60,7 @@ use Rattle.engine.specs.Birth.{birthRefusal, birthOf}
 use Rattle.engine.specs.Month.{monthRefusal, monthOf}
 use Rattle.engine.specs.Run.{startRefusal, runOf}
 use Rattle.conservation.proofs.WholeMonths.{month-refusal, month-accepted}
-use Rattle.conservation.specs.Witness.{witnessFields, witnessRow, witnessTable, witnessBlock, witnessSite, witnessBook, witnessFiles, witnessFoods, fedFiles, SomethingAccepted}
+use Rattle.conservation.specs.Witness.{witnessFields, witnessRow, witnessTable, witnessBlock, witnessSite, bookOf, witnessBook, witnessFiles, witnessFoods, fedFiles, SomethingAccepted}
 
 -- ---- the site file
 
@@ -143,50 +143,52 @@ block-body-long n h =
     let long = part-long n h in
     body-passes (bookForm n) (blockPart witnessTable n) (omega arith) (omega arith) (omega arith) (omega arith) .long
 
-block-long : (n : ℕ) → n < bookBlocks → length (witnessBlock n) ≡ blockBytes
+pub block-long : (n : ℕ) → n < bookBlocks → length (witnessBlock n) ≡ blockBytes
 unfolding witnessBlock
 block-long n h = length-sealed (bodyOf (bookForm n) (blockPart witnessTable n)) (block-body-long n h)
 
--- byte j of the book stands in block j / 512
-abbrev byte : ℕ → ℕ
-byte j = byteAt (witnessBlock (j / blockBytes)) (j % blockBytes)
+-- a book of 17 blocks is as long as it has to be, and has them: byte j stands in block j / 512
+module _ (blocks : ℕ → List ℕ) where
+  abbrev byte : ℕ → ℕ
+  byte j = byteAt (blocks (j / blockBytes)) (j % blockBytes)
 
-book-long : length (tab bookBytes byte) ≡ bookBytes
-book-long = length-tab bookBytes byte
+  pub book-long : length (bookOf blocks) ≡ bookBytes
+  unfolding bookOf
+  book-long = length-tab bookBytes byte
 
-block-of-book : (n : ℕ) → n < bookBlocks → blockAt (tab bookBytes byte) n ≡ witnessBlock n
-unfolding blockAt
-block-of-book n h =
-    let rest : length (drop (blockBytes * n) (tab bookBytes byte)) ≡ bookBytes - blockBytes * n = length-drop (blockBytes * n) (tab bookBytes byte) ∙ ap (λ (k : ℕ). k - blockBytes * n) book-long in
-    let long : length (take blockBytes (drop (blockBytes * n) (tab bookBytes byte))) ≡ blockBytes = length-take-le blockBytes (drop (blockBytes * n) (tab bookBytes byte)) (omega arith) in
-    ext-getD 0 (take blockBytes (drop (blockBytes * n) (tab bookBytes byte))) (witnessBlock n) (long ∙ sym (block-long n h))
-    (λ k l.
-    let here : k < blockBytes = omega arith in
-    let block : (blockBytes * n + k) / blockBytes ≡ n = omega arith in
-    let place : (blockBytes * n + k) % blockBytes ≡ k = omega arith in
-    getD-take blockBytes (drop (blockBytes * n) (tab bookBytes byte)) k 0 here
-    ∙ getD-drop (blockBytes * n) (tab bookBytes byte) k 0
-    ∙ getD-tab bookBytes byte (blockBytes * n + k) (omega arith)
-    ∙ ap₂ (λ (b i : ℕ). byteAt (witnessBlock b) i) block place)
+  pub block-of-book : (n : ℕ) → n < bookBlocks → length (blocks n) ≡ blockBytes → blockAt (bookOf blocks) n ≡ blocks n
+  unfolding blockAt bookOf
+  block-of-book n h block-long =
+      let rest : length (drop (blockBytes * n) (bookOf blocks)) ≡ bookBytes - blockBytes * n = length-drop (blockBytes * n) (bookOf blocks) ∙ ap (λ (k : ℕ). k - blockBytes * n) book-long in
+      let long : length (take blockBytes (drop (blockBytes * n) (bookOf blocks))) ≡ blockBytes = length-take-le blockBytes (drop (blockBytes * n) (bookOf blocks)) (omega arith) in
+      ext-getD 0 (take blockBytes (drop (blockBytes * n) (bookOf blocks))) (blocks n) (long ∙ sym block-long)
+      (λ k l.
+      let here : k < blockBytes = omega arith in
+      let block : (blockBytes * n + k) / blockBytes ≡ n = omega arith in
+      let place : (blockBytes * n + k) % blockBytes ≡ k = omega arith in
+      getD-take blockBytes (drop (blockBytes * n) (bookOf blocks)) k 0 here
+      ∙ getD-drop (blockBytes * n) (bookOf blocks) k 0
+      ∙ getD-tab bookBytes byte (blockBytes * n + k) (omega arith)
+      ∙ ap₂ (λ (b i : ℕ). byteAt (blocks b) i) block place)
 
 book-reads : BookReads witnessBook witnessTable
 unfolding witnessBook witnessBlock
 book-reads =
-    book-read-back (tab bookBytes byte) witnessTable (λ n. zeros) book-long table-long table-small rows-fit (λ n h. zeros-long)
-    (λ n h. block-of-book n h ∙ written-block n h)
+    book-read-back (bookOf witnessBlock) witnessTable (λ n. zeros) (book-long witnessBlock) table-long table-small rows-fit (λ n h. zeros-long)
+    (λ n h. block-of-book witnessBlock n h (block-long n h) ∙ written-block n h)
   where
     written-block : (n : ℕ) → n < bookBlocks → witnessBlock n ≡ written (bodyOf (bookForm n) (blockPart witnessTable n)) zeros
     written-block n h = sym (written-sealed (bodyOf (bookForm n) (blockPart witnessTable n)) zeros (block-body-long n h) zeros-long)
 
 -- ---- the files
 
-site-long : length witnessSite ≡ blockBytes
+pub site-long : length witnessSite ≡ blockBytes
 unfolding witnessSite
 site-long = length-sealed (bodyOf siteForm witnessFields) site-body-long
 
 all-book-long : length witnessBook ≡ bookBytes
 unfolding witnessBook
-all-book-long = book-long
+all-book-long = book-long witnessBlock
 
 site-passes : siteRefusal witnessSite ≡ 0
 unfolding readAs

@@ -1,9 +1,12 @@
--- Something is accepted: files whose birth, first month and whole run are accepted, with an uptake that is not 0, so that no law speaks of nothing.
+-- Something is accepted: files whose birth, first month and whole run are accepted, with an uptake that is not 0; and something is refused, at each block
+-- of a book: so that no law speaks of nothing.
 -- Assumes nothing.
-use Prim.Native.Nat.{ℕ, _*_, _/_, _%_}
+use Prim.Native.Nat.{ℕ, _*_, _/_, _%_, _<_}
 use mathlib.Core.Path.{_≡_}
+use mathlib.Core.Bool.{cond}
 use mathlib.Core.List.{List, [], _∷_, _++_}
 use lib.ListN.{getD, replicate}
+use lib.Dec.{eqb}
 use Rattle.numbers.specs.Choice.{tab}
 use Rattle.block.specs.Block.{byteAt, blockBytes}
 use Rattle.block.specs.Writer.{sealed, bodyOf}
@@ -13,11 +16,12 @@ use Rattle.foods.specs.Foods.{foodsRefusal}
 use Rattle.foods.specs.Laws.{foodsBody}
 use Rattle.diet.specs.Bench.{workedFoods}
 use Rattle.row.specs.Row.{unit, numbersARow, lastMonth}
-use Rattle.book.specs.Book.{bookBytes, tableNumbers, bookForm, bookRefusal}
+use Rattle.book.specs.Book.{bookBlocks, bookBytes, tableNumbers, bookForm, bookRefusal}
 use Rattle.book.specs.Laws.{blockPart}
 use Rattle.steps.specs.Steps.{stepsADay}
 use Rattle.child.specs.Month.{monthUptake}
 use Rattle.files.specs.Files.{Files, filesOf, filesWith, scenarioIn, tableIn}
+use Rattle.files.specs.Laws.{BlockRefused}
 use Rattle.engine.specs.Birth.{birthOf}
 use Rattle.engine.specs.Month.{monthOf}
 use Rattle.engine.specs.Run.{runOf}
@@ -68,8 +72,12 @@ witnessBlock n = sealed (bodyOf (bookForm n) (blockPart witnessTable n))
 unfoldable pub witnessSite : List ℕ
 witnessSite = sealed (bodyOf siteForm witnessFields)
 
+-- a book of these blocks
+unfoldable pub bookOf : (ℕ → List ℕ) → List ℕ
+bookOf blocks = tab bookBytes (λ (j : ℕ). byteAt (blocks (j / blockBytes)) (j % blockBytes))
+
 unfoldable pub witnessBook : List ℕ
-witnessBook = tab bookBytes (λ (j : ℕ). byteAt (witnessBlock (j / blockBytes)) (j % blockBytes))
+witnessBook = bookOf witnessBlock
 
 abbrev pub witnessFiles : Files
 witnessFiles = filesOf witnessSite witnessBook
@@ -94,3 +102,14 @@ pub record SomethingAccepted : Type 0 where
   pub fed-month : monthOf stepsADay (birthOf fedFiles .state) fedFiles .refusal ≡ 0
   pub fed-uptake : monthUptake (scenarioIn fedFiles) (tableIn fedFiles) 1 ≡ 11_080
   pub fed-run : runOf stepsADay fedFiles lastMonth .refusal ≡ 0
+
+-- the same files with zeros in place of block n of the book
+abbrev pub wipedBlock : ℕ → ℕ → List ℕ
+wipedBlock n i = cond (eqb i n) (replicate blockBytes 0) (witnessBlock i)
+
+abbrev pub wipedFiles : ℕ → Files
+wipedFiles n = filesOf witnessSite (bookOf (wipedBlock n))
+
+-- block n of them is refused, for each n: so each count of decoded blocks comes
+abbrev pub SomethingRefused : Type 0
+SomethingRefused = (n : ℕ) → n < bookBlocks → BlockRefused (wipedFiles n) n

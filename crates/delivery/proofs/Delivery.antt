@@ -23,6 +23,7 @@ use Rattle.conservation.proofs.Demand3 as demand3
 use Rattle.conservation.proofs.FoodsDiet as fed
 use Rattle.conservation.proofs.RunIsCalls as run
 use Rattle.conservation.proofs.Witness as witness
+use Rattle.conservation.proofs.WipedBlocks as wiped
 use Rattle.jurengate.proofs.Words as words
 use Rattle.text.proofs.DecimalIsWritten as text
 use Rattle.printout.proofs.LinesAreWhole as lines
@@ -134,6 +135,7 @@ delivery =
       book-decodes = book-decodes.decodes-law;
       files-decodes = files-decodes.decodes-law;
       files-ends = files-decodes.ends-law;
+      something-refused = wiped.something-refused;
       group-decodes = group-decodes.decodes-law;
       card-group-decodes = groups.decodes-law;
       plain-rows = reading.plain-rows;

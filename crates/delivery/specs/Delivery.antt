@@ -137,11 +137,12 @@ pub record Delivery : Type 0 where
   pub card-first-bytes : cardline.FirstBytesLaw
   pub card-shown : cardLines.Bench
   -- GROUPS. Sixty-four rows need one reading of their book. A block of it is decoded exactly 17 times if the book is accepted, n + 1 times if its block n
-  -- is refused, and never on a refusal before its blocks; every reading ends in one of these ways; a group carries its files' count, whatever its rows are
+  -- is refused, and never on a refusal before its blocks; every reading ends in one of these ways, and some at each block; a group carries its files' count, whatever its rows are
   pub refused-block : book.RefusedBlock
   pub book-decodes : book.DecodesLaw
   pub files-decodes : files.DecodesLaw
   pub files-ends : files.EndsLaw
+  pub something-refused : witness.SomethingRefused
   pub group-decodes : group.DecodesLaw
   pub card-group-decodes : cardline.DecodesLaw
   -- a text of rows alone gives its rows, and from the start of line k on its lines after the first k: so groups follow each other
