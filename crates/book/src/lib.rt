@@ -1,4 +1,5 @@
 // The rate book: 17 blocks of five month rows each, decoded once into a table of numbers, or refused.
+#![tactic(auto)]
 ghost use Rattle.std.specs.Prelude.{◌≡◌, ◌+◌, ◌<◌, length};
 ghost use Rattle.book.specs.Book.{book_blocks, book_bytes, table_numbers, book_form, book_refusal, book_decodes, book_table};
 ghost use Rattle.book.specs.Internal.{BlockDecoded, BookDecoded};
@@ -21,7 +22,7 @@ const BLOCK_NUMBERS: usize = BLOCK_ROWS * ROW_NUMBERS;
 pub const TABLE_NUMBERS: usize = BOOK_BLOCKS * BLOCK_NUMBERS;
 
 // What reading a book answers: a refusal or 0, and how many of its blocks were decoded.
-#[derive(Drop)]
+#[derive(Clone, Copy)]
 pub struct BookRead {
     pub refusal: u32,
     pub decodes: u32,

@@ -1,5 +1,6 @@
 // What leadcard prints, the lines of a group of rows at a time, from the bytes of its files and the rows on a roll. Reading files and writing bytes is
 // left to the program.
+#![tactic(auto)]
 ghost use Rattle.std.specs.Prelude.{◌≡◌, ◌++◌, length, drop};
 ghost use Rattle.files.specs.Files.{files_of};
 ghost use Rattle.cardline.specs.Groups.{group_lines, lines_read};
@@ -16,7 +17,7 @@ const LINE_BYTES: usize = 19;
 pub const GROUP_BYTES: usize = GROUP_ROWS * LINE_BYTES;
 
 // What putting the lines of a group answers.
-#[derive(Drop)]
+#[derive(Clone, Copy)]
 pub struct LinesRead {
     pub bytes: usize, // of the lines
     pub decodes: u32, // of blocks of the book

@@ -1,4 +1,5 @@
 // A card over a site file's fields.
+#![tactic(auto)]
 ghost use Rattle.std.specs.Prelude.{◌≡◌, false, ◌+◌, ◌≤◌, ◌<◌, set};
 ghost use Rattle.site.specs.Fields.{ages, field_count, at, limits};
 ghost use Rattle.site.specs.Put.{put_from};
@@ -28,7 +29,7 @@ const BOTH_MODES: u32 = 0;
 const OVER_LIMIT: u32 = 7;
 
 // What becomes of a row before it is run over the files.
-#[derive(Drop)]
+#[derive(Clone, Copy)]
 pub enum Start {
     Runs(Card),
     Skipped,

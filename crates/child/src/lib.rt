@@ -1,4 +1,5 @@
 // A child of accepted files: its birth, a month of it, and the months of a run.
+#![tactic(auto)]
 ghost use Rattle.std.specs.Prelude.{◌≡◌, ◌≤◌, ◌<◌, length};
 ghost use Rattle.row.specs.Limits.{RowLimits};
 ghost use Rattle.kinetics.specs.Step.{burden, burden_limit};
@@ -26,14 +27,14 @@ const STEPS_A_DAY: u64 = 6;
 pub const SATURATION_MONTH: usize = 24;
 
 // What birth answers: 0 and the newborn child, or a refusal and the all-zero state.
-#[derive(Drop)]
+#[derive(Clone, Copy)]
 pub struct BirthAnswer {
     pub refusal: u32,
     pub state: State,
 }
 
 // What a month answers: 0, the child a month later and its blood figure; or a refusal, the child as it was and 0.
-#[derive(Drop)]
+#[derive(Clone, Copy)]
 pub struct MonthAnswer {
     pub refusal: u32,
     pub state: State,
@@ -41,7 +42,7 @@ pub struct MonthAnswer {
 }
 
 // A child's course up to a month: 0, the child at the month's end and the month's blood figure, 0 at birth; or the first refusal up to it.
-#[derive(Drop)]
+#[derive(Clone, Copy)]
 pub struct Course {
     pub refusal: u32,
     pub state: State,
@@ -49,7 +50,7 @@ pub struct Course {
 }
 
 // What a run answers: 0, or the refusal that ended it; the months done, and the last month end.
-#[derive(Drop)]
+#[derive(Clone, Copy)]
 pub struct RunAnswer {
     pub refusal: u32,
     pub months: u32,

@@ -1,5 +1,6 @@
 // The engine: birth, the month call and the run, on site files, foods blocks and rate books of any length and content. A call has a foods
 // block if `has_foods` says so; else its bytes are not looked at.
+#![tactic(auto)]
 ghost use Rattle.std.specs.Prelude.{◌≡◌, length};
 ghost use Rattle.numbers.specs.Choice.{first_of};
 ghost use Rattle.steps.specs.Steps.{steps_a_day};
@@ -20,7 +21,7 @@ use site::Scenario;
 const WRONG_LIST_LENGTH: u32 = 2;
 
 // What the start of a run answers: 0, the scenario and the newborn child; or a refusal, some scenario and the all-zero state.
-#[derive(Drop)]
+#[derive(Clone, Copy)]
 pub struct RunStart {
     pub refusal: u32,
     pub scenario: Scenario,

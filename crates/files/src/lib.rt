@@ -1,4 +1,5 @@
 // A call's files: the site file, a foods block or none, and the rate book, read or refused with the first of their numbers.
+#![tactic(auto)]
 ghost use Rattle.std.specs.Prelude.{◌≡◌, [], ◌∷◌};
 ghost use Rattle.numbers.specs.Choice.{first_of, answer_by};
 ghost use Rattle.book.specs.Book.{book_refusal, book_decodes, book_table};
@@ -12,7 +13,7 @@ use site::places::AGES;
 use site::{SITE_BYTES, Scenario};
 
 // What reading a call's files answers: a refusal, or 0 and the scenario; and how many blocks of the book were decoded.
-#[derive(Drop)]
+#[derive(Clone, Copy)]
 pub struct FilesRead {
     pub refusal: u32,
     pub decodes: u32,
@@ -20,7 +21,7 @@ pub struct FilesRead {
 }
 
 // What reading a call's foods block answers: a refusal, or 0 and the diet of each age, pg/day.
-#[derive(Drop)]
+#[derive(Clone, Copy)]
 pub struct DietsRead {
     pub refusal: u32,
     pub diets: [u64; AGES],

@@ -1,4 +1,5 @@
 // A group of up to 64 rows of a card, run together over one reading of their files: all to a month before any goes on to the next.
+#![tactic(auto)]
 ghost use Rattle.std.specs.Prelude.{◌≡◌, List, ℕ, ◌+◌, ◌≤◌, min, max, length};
 ghost use Rattle.site.specs.declared.Scenario.{Scenario};
 ghost use Rattle.book.specs.Book.{table_numbers};
@@ -26,7 +27,7 @@ use site::Scenario;
 pub mod answers; // answers.rt: the answers in words
 
 // What a group of a text's rows answers beside the answers themselves.
-#[derive(Drop)]
+#[derive(Clone, Copy)]
 pub struct GroupRead {
     pub rows: u32, // taken of the text
     pub decodes: u32, // of blocks of the book

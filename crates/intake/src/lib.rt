@@ -1,4 +1,5 @@
 // What a child takes in a day: the intake of each medium (E-1 to E-11), and refusal 9.
+#![tactic(auto)]
 ghost use Rattle.std.specs.Prelude.{◌≡◌};
 ghost use Rattle.exposure.specs.Limits.{ExposureLimits};
 ghost use Rattle.intake.specs.Intake.{air_intake, mixed_water, water_intake, soil_intake, dust_concentration, dust_intake, intakes_of, refusal_of};
@@ -31,7 +32,7 @@ const DUST_MEDIUM: usize = 2;
 const SOIL_MEDIUM: usize = 3;
 
 // What is taken in, in pg a day: in the air breathed, and in the five eaten media.
-#[derive(Drop)]
+#[derive(Clone, Copy)]
 pub struct Intakes {
     pub air: u64,
     pub media: [u64; 5], // diet, water, dust, soil, alternate

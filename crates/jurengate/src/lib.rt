@@ -1,4 +1,5 @@
 // The C interface for firmware: include/jurengate.h declares these calls.
+#![tactic(auto)]
 ghost use Rattle.std.specs.Prelude.{◌≡◌, length};
 ghost use Rattle.block.specs.Writer.{writer_refusal, written};
 ghost use Rattle.site.specs.Site.{read_site};

@@ -1,4 +1,5 @@
 // The C interface for batch cards: include/jurengate_cards.h declares these calls.
+#![tactic(auto)]
 ghost use Rattle.std.specs.Prelude.{◌≡◌, length};
 ghost use Rattle.files.specs.Files.{files_if, files_decodes};
 ghost use Rattle.steps.specs.Steps.{steps_a_day};

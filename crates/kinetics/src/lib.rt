@@ -1,4 +1,5 @@
 // The child's kinetics: one step of the seven compartments.
+#![tactic(auto)]
 pub mod divisor; // divisor.rt: the divisors of a month's rates
 pub mod step; // step.rt: one step (B-8, B-9)
 
@@ -30,7 +31,7 @@ const FAECES_AT: usize = 1;
 const SKIN_AT: usize = 2;
 
 // A child. Lead and ledgers are in pg.
-#[derive(Drop)]
+#[derive(Clone, Copy)]
 pub struct State {
     pub month: u64,
     pub lead: [u64; 7], // plasma with ECF, red cells, liver, kidney, other, trabecular, cortical
@@ -38,7 +39,7 @@ pub struct State {
 }
 
 // The divisors of a month's rates, in units of 1/D, computed once for all its steps.
-#[derive(Drop)]
+#[derive(Clone, Copy)]
 pub struct Divisors {
     pub compartments: [u64; 6], // E1 to E6
     pub plasma: u64, // d

@@ -2,6 +2,7 @@
 // A file that is missing or cannot be opened counts as empty. If reading the site file or the book fails, what was read until then counts as the
 // file, and has a wrong length; if reading the text fails, its last row may be cut, so the program stops before it and says why. The text is read
 // in pieces, and a row is never held whole: neither has a greatest length. Rows are run in groups of 64, in the text's order.
+#![tactic(auto)]
 ghost use Rattle.std.specs.Prelude.{◌≡◌, false, ◌<◌};
 ghost use Rattle.io.specs.Counts.{IsPrefixLen};
 ghost use Rattle.lines.specs.Stream.{after};
@@ -20,14 +21,14 @@ const BOOK_READ: usize = book::BOOK_BYTES + 1;
 const PIECE_BYTES: usize = 512;
 
 // What is left on the roll.
-#[derive(Drop)]
+#[derive(Clone, Copy)]
 struct Left {
     count: usize, // rows, fewer than a group
     failed: bool, // lines could not be written
 }
 
 // Where a piece of the text has led.
-#[derive(Drop)]
+#[derive(Clone, Copy)]
 struct Turn {
     reader: Reader,
     count: usize, // rows on the roll, fewer than a group

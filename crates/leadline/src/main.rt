@@ -1,5 +1,6 @@
 // Prints the blood lead of a child, a line for each month, from site.lkb and book.lkb in the current folder.
 // A file that is missing or cannot be opened counts as empty. If reading fails, what was read until then counts as the file.
+#![tactic(auto)]
 ghost use Rattle.io.specs.Counts.{IsPrefixLen};
 
 use libc::STDOUT_FILENO;

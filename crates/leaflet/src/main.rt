@@ -1,4 +1,5 @@
 // Prints the leaflet: least and most of each figure of a site file, from the list that the site check walks, and the two rules beside it.
+#![tactic(auto)]
 ghost use Rattle.std.specs.Prelude.{◌≡◌, ◌*◌, ◌≤◌, ◌<◌, length};
 ghost use Rattle.leaflet.specs.Figures.{figures};
 ghost use Rattle.leaflet.specs.Leaflet.{label_bytes};

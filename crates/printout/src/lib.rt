@@ -1,4 +1,5 @@
 // What leadline prints, a line at a time, from the bytes of its two files. Reading files and writing bytes is left to the program.
+#![tactic(auto)]
 ghost use Rattle.std.specs.Prelude.{◌≡◌, ◌++◌, length, drop, get_or};
 ghost use Rattle.files.specs.Files.{files_of};
 ghost use Rattle.printout.specs.Lines.{prepared_of, line_at};
@@ -14,7 +15,7 @@ pub const LINE_BYTES: usize = 36;
 pub const LINES: u32 = MONTHS as u32 + 1;
 
 // What is kept of a run for its printout.
-#[derive(Drop)]
+#[derive(Clone, Copy)]
 pub struct Prepared {
     pub refusal: u32,
     pub months: u32,

@@ -1,5 +1,6 @@
 // The roll of a group: what becomes of up to 64 rows of a card before any file is looked at, kept as words between the reading of the text and
 // the run. Words, since a list of structs cannot be lent.
+#![tactic(auto)]
 ghost use Rattle.std.specs.Prelude.{◌≡◌, ◌≤◌, ◌<◌, length};
 ghost use Rattle.card.specs.declared.Value.TheVariants.{Figure};
 ghost use Rattle.card.specs.Row.{read_kept};
@@ -31,7 +32,7 @@ const REFUSED: u32 = 2;
 const GAP: u32 = u32::MAX;
 
 // Where reading on has led.
-#[derive(Drop)]
+#[derive(Clone, Copy)]
 pub struct Enrolled {
     pub reader: Reader,
     pub used: usize, // bytes of the piece
@@ -39,7 +40,7 @@ pub struct Enrolled {
 }
 
 // The rows of a text on the roll.
-#[derive(Drop)]
+#[derive(Clone, Copy)]
 pub struct RowsTaken {
     pub count: usize,
     pub next: usize, // where the row after them starts, or the text's length

@@ -1,4 +1,5 @@
 // The two gut routes of each month, from files of any length and content: what a day of it takes up passively and actively, in pg.
+#![tactic(auto)]
 ghost use Rattle.std.specs.Prelude.{◌≡◌, ◌≤◌, length};
 ghost use Rattle.exposure.specs.Limits.{ExposureLimits};
 ghost use Rattle.row.specs.Row.{last_month};
@@ -16,14 +17,14 @@ use exposure::Exposure;
 use site::Scenario;
 
 // The sums of a day's two gut routes, in pg.
-#[derive(Drop)]
+#[derive(Clone, Copy)]
 pub struct RouteSums {
     pub passive: u64,
     pub active: u64,
 }
 
 // Those of each month's day.
-#[derive(Drop)]
+#[derive(Clone, Copy)]
 pub struct MonthlySums {
     pub passive: [u64; MONTHS],
     pub active: [u64; MONTHS],

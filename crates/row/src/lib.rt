@@ -1,4 +1,5 @@
 // A month's row of the rate book: read from a table of rows, and its limits.
+#![tactic(auto)]
 pub mod limits; // limits.rt: the limits of a row
 pub mod places; // places.rt: the places of a row's numbers
 pub mod table; // table.rt: a month's row of a table
@@ -13,7 +14,7 @@ pub const LAST_MONTH: usize = 84;
 
 // A month's rates a step, in units of 1/D: from plasma to red cells, liver, kidney, other, trabecular and cortical bone, and to
 // urine; from these six back to plasma; from liver to faeces, and from other to skin, hair and nails.
-#[derive(Drop)]
+#[derive(Clone, Copy)]
 pub struct Rates {
     pub out: [u64; 6],
     pub urine: u64,
@@ -23,7 +24,7 @@ pub struct Rates {
 }
 
 // A month's row of the book.
-#[derive(Drop)]
+#[derive(Clone, Copy)]
 pub struct Row {
     pub blood_volume: u64, // thousandths of dL
     pub plasma_volume: u64, // thousandths of dL

@@ -1,4 +1,5 @@
 // The site file: one block of 94 fields, read into a scenario or refused.
+#![tactic(auto)]
 ghost use Rattle.std.specs.Prelude.{◌≡◌};
 ghost use Rattle.site.specs.Scenario.{dust_source_of, water_source_of, diets_in, scenario_of};
 ghost use Rattle.site.specs.Site.{refused_with, read_site};
@@ -23,21 +24,21 @@ const SITE_FORM: Form = Form {
 };
 
 // Where the dust figure comes from: given, or from soil and air by the multiple source formula.
-#[derive(Drop)]
+#[derive(Clone, Copy)]
 pub enum DustSource {
     Given,
     MultipleSource,
 }
 
 // Where the water concentration comes from: one constant figure, or flushed, first draw and fountain by their shares.
-#[derive(Drop)]
+#[derive(Clone, Copy)]
 pub enum WaterSource {
     Constant,
     ThreeSources,
 }
 
 // A site file's fields, with the diet of each age and the two modes decoded.
-#[derive(Drop)]
+#[derive(Clone, Copy)]
 pub struct Scenario {
     pub fields: [u32; FIELDS],
     pub diets: [u64; AGES], // pg/day: the fields' own, or those of foods, which are in 64 bits
@@ -46,7 +47,7 @@ pub struct Scenario {
 }
 
 // What reading a site file answers: 0 and its scenario, or a refusal and the blank one.
-#[derive(Drop)]
+#[derive(Clone, Copy)]
 pub struct SiteRead {
     pub refusal: u32,
     pub scenario: Scenario,

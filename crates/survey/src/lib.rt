@@ -1,4 +1,5 @@
 // A row of a batch card over a site file, a foods block or none, and a rate book, of any length and content: its answer.
+#![tactic(auto)]
 ghost use Rattle.std.specs.Prelude.{◌≡◌, length};
 ghost use Rattle.book.specs.Book.{table_numbers};
 ghost use Rattle.card.specs.Row.{read_kept};
@@ -19,7 +20,7 @@ use site::Scenario;
 pub mod values; // values.rt: an answer's number and values
 
 // What a row answers: the blood figure at its AGE in thousandths of ug/dL, that it is skipped, or why it is refused.
-#[derive(Drop)]
+#[derive(Clone, Copy)]
 pub enum RowAnswer {
     Blood(u32),
     Skipped,

@@ -1,4 +1,6 @@
 // Bytes, text, decimal numbers and blood figures, put into lent bytes one after the other. Each answers the place past what it put.
+#![tactic(auto)]
+
 ghost use Rattle.std.specs.Prelude.{◌≡◌, ◌+◌, ◌≤◌, ◌<◌, [], ◌∷◌, length};
 ghost use Rattle.text.specs.Decimal.{digit, decimal};
 ghost use Rattle.text.specs.Figure.{tenths, figure};

@@ -3,7 +3,7 @@
 use Prim.Native.Nat.{◌-◌}
 use native.Mathlib.Omega.{arith}
 use borrow.Author.Rules.{rules}
-use Rattle.uptake.proofs.Loops.{PartsSummed, parts_none, parts_next, parts_all}
+use Rattle.uptake.proofs.PartLoops.{PartsSummed, parts_none, parts_next, parts_all}
 use Rattle.uptake.proofs.total.route_sum.Statement.{statement}
 use Rattle.uptake.proofs.total.route_sum.Tie as tie
 
