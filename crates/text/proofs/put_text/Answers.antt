@@ -1,0 +1,11 @@
+-- `text::put_text` meets its contract: the bytes put so far are the first of the text.
+use Prim.Native.Nat.{◌+◌, ◌-◌, ◌≤◌}
+use native.Mathlib.Omega.{arith}
+use borrow.Author.Rules.{rules}
+use lib.ListN.{length, take}
+use Rattle.text.specs.Internal.{Put}
+use Rattle.text.proofs.Puts.{text_none, text_next, text_whole}
+use Rattle.text.proofs.put_text.Goals as goal
+
+pub loop-put-preserved : goal.loop-put-preserved
+loop-put-preserved c = (omega arith, text_next c.args.text.now c.loop-put-test.true c.loop-put.invariant.1)
