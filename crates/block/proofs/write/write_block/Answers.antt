@@ -16,3 +16,8 @@ returns c =
     let copied = ap (λ (front : List ℕ). front ++ drop (length a.body.now) a.target.now) (c.copy_from_slice.ensures.after ∙ sym (take-length a.body.now)) in
     let whole = stored_written a.body.now a.target.now c.if-body-ne-CHECK_AT.false c.if-target-ne-BLOCK_BYTES.false copied c.check_of-check.ensures c.put_field.ensures in
     record { value = whole.0; target_after = whole.1 }
+
+pub returns-then-target-ne-BLOCK_BYTES : goal.returns-then-target-ne-BLOCK_BYTES
+returns-then-target-ne-BLOCK_BYTES c =
+    let whole = left_written _ _ (unwritable_target _ _ c.if-body-ne-CHECK_AT.false c.if-target-ne-BLOCK_BYTES.true) in
+    record { value = whole.0; target_after = whole.1 }
