@@ -7,7 +7,7 @@ use borrow.Author.Rules.{rules}
 use Rattle.intake.proofs.air_intake.Goals as goal
 
 pub overflow_mul-result : goal.overflow_mul-result
-overflow_mul-result c = ?
+overflow_mul-result c = omega (arith, breathed_most c.requires)
 
 pub returns : goal.returns
 unfolding air_intake

@@ -6,7 +6,7 @@ use borrow.Author.Rules.{rules}
 use Rattle.intake.proofs.dust_concentration.Goals as goal
 
 pub returns-in-Given : goal.returns-in-Given
-returns-in-Given c = record { value = dust_by_source c.args.e c.enum_told-1.given.1; small = omega (arith, c.requires.dust) }
+returns-in-Given c = record { value = dust_by_source c.args.e c.in-Given.is; small = omega (arith, c.requires.dust) }
 
 pub returns-in-MultipleSource : goal.returns-in-MultipleSource
-returns-in-MultipleSource c = record { value = dust_by_source c.args.e c.enum_told-in-MultipleSource-1.given.1; small = multiple_source_most c.requires }
+returns-in-MultipleSource c = record { value = dust_by_source c.args.e c.in-MultipleSource.is; small = multiple_source_most c.requires }

@@ -9,6 +9,6 @@ use Rattle.intake.proofs.dust_intake.Goals as goal
 
 pub returns : goal.returns
 unfolding dust_intake
-returns c = 
+returns c =
     let e = c.args.e in
     ap (λ (dust : ℕ). dust * e.eaten * (100 - e.weight_soil) / 100) c.dust_concentration-concentration.ensures.value

@@ -4,22 +4,25 @@ use borrow.Author.Tests.{le-leb, lt-leb}
 use Rattle.numbers.specs.Choice.{unless}
 use Rattle.numbers.proofs.Every.{and_next, and_stop}
 use Rattle.intake.proofs.Refusal9.{TestsLeft, refusal_by_tests}
-use borrow.Author.Rules.{rules}
+use Rattle.std.proofs.Common.{◌≤◌, get_or}
+use Rattle.intake.specs.declared.Intakes.{Intakes}
 use Rattle.intake.proofs.intake_refusal.Goals as goal
-use Rattle.intake.proofs.intake_refusal.Goals.{Else-dust-gt-INTAKE_MOST, Else-intakes-gt-INTAKE_MOST, Else-soil-gt-INTAKE_MOST, Else-water-gt-INTAKE_MOST}
 
 -- the tests that are left after each that passed
-left-1 : (c : Else-intakes-gt-INTAKE_MOST) → TestsLeft 1 c.args.intakes
-left-1 c = and_next _ _ refl (le-leb _ _ c.if-intakes-gt-INTAKE_MOST.false)
+module _ (i : Intakes) (air : i.air ≤ 1_000_000_000) where
+  left-1 : TestsLeft 1 i
+  left-1 = and_next _ _ refl (le-leb _ _ air)
 
-left-2 : (c : Else-water-gt-INTAKE_MOST) → TestsLeft 2 c.args.intakes
-left-2 c = and_next _ _ (left-1 c) (le-leb _ _ c.if-water-gt-INTAKE_MOST.false)
+  module _ (water : get_or i.media 1 0 ≤ 1_000_000_000) where
+    left-2 : TestsLeft 2 i
+    left-2 = and_next _ _ left-1 (le-leb _ _ water)
 
-left-3 : (c : Else-soil-gt-INTAKE_MOST) → TestsLeft 3 c.args.intakes
-left-3 c = and_next _ _ (left-2 c) (le-leb _ _ c.if-soil-gt-INTAKE_MOST.false)
+    module _ (soil : get_or i.media 3 0 ≤ 1_000_000_000) where
+      left-3 : TestsLeft 3 i
+      left-3 = and_next _ _ left-2 (le-leb _ _ soil)
 
-left-4 : (c : Else-dust-gt-INTAKE_MOST) → TestsLeft 4 c.args.intakes
-left-4 c = and_next _ _ (left-3 c) (le-leb _ _ c.if-dust-gt-INTAKE_MOST.false)
+      left-4 : get_or i.media 2 0 ≤ 1_000_000_000 → TestsLeft 4 i
+      left-4 dust = and_next _ _ left-3 (le-leb _ _ dust)
 
 pub returns-then-intakes-gt-INTAKE_MOST : goal.returns-then-intakes-gt-INTAKE_MOST
 unfolding unless
@@ -27,20 +30,29 @@ returns-then-intakes-gt-INTAKE_MOST c = refusal_by_tests _ (and_stop _ _ refl (l
 
 pub returns-then-water-gt-INTAKE_MOST : goal.returns-then-water-gt-INTAKE_MOST
 unfolding unless
-returns-then-water-gt-INTAKE_MOST c = refusal_by_tests _ (and_stop _ _ (left-1 (goal.at.returns-then-water-gt-INTAKE_MOST c).Else-intakes-gt-INTAKE_MOST) (lt-leb _ _ c.if-water-gt-INTAKE_MOST.true))
+returns-then-water-gt-INTAKE_MOST c = refusal_by_tests _ (and_stop _ _ (left-1 c.args.intakes c.if-intakes-gt-INTAKE_MOST.false) (lt-leb _ _ c.if-water-gt-INTAKE_MOST.true))
 
 pub returns-then-soil-gt-INTAKE_MOST : goal.returns-then-soil-gt-INTAKE_MOST
 unfolding unless
-returns-then-soil-gt-INTAKE_MOST c = refusal_by_tests _ (and_stop _ _ (left-2 (goal.at.returns-then-soil-gt-INTAKE_MOST c).Else-water-gt-INTAKE_MOST) (lt-leb _ _ c.if-soil-gt-INTAKE_MOST.true))
+returns-then-soil-gt-INTAKE_MOST c =
+    refusal_by_tests _ (and_stop _ _ (left-2 c.args.intakes c.if-intakes-gt-INTAKE_MOST.false c.if-water-gt-INTAKE_MOST.false) (lt-leb _ _ c.if-soil-gt-INTAKE_MOST.true))
 
 pub returns-then-dust-gt-INTAKE_MOST : goal.returns-then-dust-gt-INTAKE_MOST
 unfolding unless
-returns-then-dust-gt-INTAKE_MOST c = refusal_by_tests _ (and_stop _ _ (left-3 (goal.at.returns-then-dust-gt-INTAKE_MOST c).Else-soil-gt-INTAKE_MOST) (lt-leb _ _ c.if-dust-gt-INTAKE_MOST.true))
+returns-then-dust-gt-INTAKE_MOST c =
+    refusal_by_tests _
+    (and_stop _ _ (left-3 c.args.intakes c.if-intakes-gt-INTAKE_MOST.false c.if-water-gt-INTAKE_MOST.false c.if-soil-gt-INTAKE_MOST.false) (lt-leb _ _ c.if-dust-gt-INTAKE_MOST.true))
 
 pub returns-then-diet-gt-INTAKE_MOST : goal.returns-then-diet-gt-INTAKE_MOST
 unfolding unless
-returns-then-diet-gt-INTAKE_MOST c = refusal_by_tests _ (sym (lt-leb _ _ c.if-diet-gt-INTAKE_MOST.true) ∙ left-4 (goal.at.returns-then-diet-gt-INTAKE_MOST c).Else-dust-gt-INTAKE_MOST)
+returns-then-diet-gt-INTAKE_MOST c =
+    refusal_by_tests _
+    (sym (lt-leb _ _ c.if-diet-gt-INTAKE_MOST.true)
+    ∙ left-4 c.args.intakes c.if-intakes-gt-INTAKE_MOST.false c.if-water-gt-INTAKE_MOST.false c.if-soil-gt-INTAKE_MOST.false c.if-dust-gt-INTAKE_MOST.false)
 
 pub returns : goal.returns
 unfolding unless
-returns c = refusal_by_tests _ (sym (le-leb _ _ c.if-diet-gt-INTAKE_MOST.false) ∙ left-4 (goal.at.returns c).Else-dust-gt-INTAKE_MOST)
+returns c =
+    refusal_by_tests _
+    (sym (le-leb _ _ c.if-diet-gt-INTAKE_MOST.false)
+    ∙ left-4 c.args.intakes c.if-intakes-gt-INTAKE_MOST.false c.if-water-gt-INTAKE_MOST.false c.if-soil-gt-INTAKE_MOST.false c.if-dust-gt-INTAKE_MOST.false)

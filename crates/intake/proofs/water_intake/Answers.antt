@@ -8,9 +8,9 @@ use borrow.Author.Rules.{rules}
 use Rattle.intake.proofs.water_intake.Goals as goal
 
 pub returns-in-Constant : goal.returns-in-Constant
-returns-in-Constant c = water_by_source c.args.e c.enum_told-1.given.1
+returns-in-Constant c = water_by_source c.args.e c.in-Constant.is
 
 pub returns-in-ThreeSources : goal.returns-in-ThreeSources
-returns-in-ThreeSources c = 
+returns-in-ThreeSources c =
     let e = c.args.e in
-    ap (λ (mixed : ℕ). e.water * mixed / 100) c.mixed_water.ensures.value ∙ water_by_source e c.enum_told-in-ThreeSources-1.given.1
+    ap (λ (mixed : ℕ). e.water * mixed / 100) c.mixed_water.ensures.value ∙ water_by_source e c.in-ThreeSources.is
