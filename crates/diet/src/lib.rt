@@ -1,5 +1,6 @@
 // The diet intake of each age, pg/day, from a foods block: E-5d to E-5v, one floor for each food.
 #![tactic(auto)]
+
 ghost use Rattle.std.specs.Prelude.{◌≡◌, ◌<◌};
 ghost use Rattle.numbers.specs.Bounds.{Is};
 ghost use Rattle.site.specs.Fields.{ages};

@@ -1,5 +1,6 @@
 // The foods block: the grams of fifteen foods at each age, their lead, and what local foods replace, read or refused.
 #![tactic(auto)]
+
 ghost use Rattle.std.specs.Prelude.{◌≡◌, length};
 ghost use Rattle.foods.specs.Names.{figure_count};
 ghost use Rattle.foods.specs.Foods.{foods_refusal, foods_figures};

@@ -1,5 +1,6 @@
 // The site file: one block of 94 fields, read into a scenario or refused.
 #![tactic(auto)]
+
 ghost use Rattle.std.specs.Prelude.{◌≡◌};
 ghost use Rattle.site.specs.Scenario.{dust_source_of, water_source_of, diets_in, scenario_of};
 ghost use Rattle.site.specs.Site.{refused_with, read_site};

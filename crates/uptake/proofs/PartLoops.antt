@@ -1,13 +1,13 @@
 -- The loops of the day's uptake by its routes, and of a route's sum.
 -- Assumes nothing.
-use mathlib.Core.Path.{◌≡◌, refl, ap, ap₂, ◌∙◌}
+use mathlib.Core.Path.{◌≡◌, refl, ap, ◌∙◌}
 use mathlib.Core.List.{List, [], ◌∷◌}
 use Prim.Native.Nat.{ℕ, ◌+◌, ◌-◌, ◌≤◌, ◌<◌}
 use native.Mathlib.Omega.{arith}
 use lib.ListN.{set}
 use Rattle.numbers.specs.Bounds.{Is}
 use Rattle.numbers.proofs.Bounds.{is}
-use Rattle.numbers.proofs.Every.{get_or-tab, tab_same}
+use Rattle.numbers.proofs.Every.{tab_same}
 use Rattle.numbers.proofs.Loops.{Filled, filled_none, filled_next, filled_all, Summed, summed_none, summed_next, summed_all}
 use Rattle.exposure.specs.declared.Exposure.{Exposure}
 use Rattle.site.specs.Fields.{at}

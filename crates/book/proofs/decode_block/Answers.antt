@@ -8,7 +8,6 @@ use Rattle.block.specs.Block.{block_bytes, block_refusal}
 use Rattle.book.specs.Book.{book_form}
 use Rattle.book.specs.Internal.{BlockDecoded}
 use Rattle.book.proofs.Decode.{stored, refused_by_header, checked_rows}
-use borrow.Author.Rules.{rules}
 use Rattle.book.proofs.decode_block.Goals as goal
 use Rattle.book.proofs.decode_block.Goals.{After-rows_fit-fit}
 

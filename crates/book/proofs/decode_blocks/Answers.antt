@@ -1,10 +1,8 @@
 -- `book::decode_blocks` meets its contract: at block n the table has the numbers of the blocks before, and each of these is counted.
-use Prim.Native.Nat.{◌-◌, ◌<◌}
-use mathlib.Core.Path.{sym, ◌∙◌}
+use Prim.Native.Nat.{◌<◌}
 use native.Mathlib.Omega.{arith}
-use borrow.Author.Rules.{rules}
 use Rattle.book.specs.Book.{book_blocks}
-use Rattle.book.proofs.Decode.{AtBlock, at_first, decodes_below, at_refused, at_next, at_end}
+use Rattle.book.proofs.Decode.{at_first, at_refused, at_next, at_end}
 use Rattle.book.proofs.decode_blocks.Goals as goal
 
 pub loop-n-init : goal.loop-n-init

@@ -1,9 +1,5 @@
 -- `card::figure_at` meets its contract.
-use Prim.Native.Nat.{ℕ}
-use borrow.Author.Rules.{length_unmapped, rules}
-use mathlib.Core.Path.{◌≡◌, ◌∙◌, ap}
-use native.Mathlib.Omega.{arith}
-use lib.ListN.{length}
+use mathlib.Core.Path.{◌∙◌, ap}
 use Rattle.figures.specs.Figure.{figure_field}
 use Rattle.lines.proofs.Steps.{field_part}
 use Rattle.card.proofs.figure_at.Goals as goal

@@ -1,6 +1,5 @@
 -- `card::read_card` meets its contract.
 use Rattle.card.proofs.Rows.{read_refused, read_wrong, read_right}
-use borrow.Author.Rules.{rules}
 use Rattle.card.proofs.read_card.Goals as goal
 
 pub returns-then-refusal-ne0 : goal.returns-then-refusal-ne0

@@ -1,6 +1,5 @@
 -- `card::read_fields` meets its contract.
 use Rattle.card.proofs.Rows.{readings-are}
-use borrow.Author.Rules.{rules}
 use Rattle.card.proofs.read_fields.Goals as goal
 
 pub returns : goal.returns

@@ -1,7 +1,6 @@
 -- `card::skipped` meets its contract.
 use Rattle.card.proofs.Skips.{skip_young, skip_old, skip_dust, skip_not}
 use native.Mathlib.Omega.{arith}
-use borrow.Author.Rules.{rules}
 use Rattle.card.proofs.skipped.Goals as goal
 
 pub returns-then-months-lt-FIRST_MONTH : goal.returns-then-months-lt-FIRST_MONTH

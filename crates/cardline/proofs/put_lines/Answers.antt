@@ -1,13 +1,8 @@
 -- `cardline::put_lines` meets its contract: the lines of the answers that the group gives.
-use Prim.Native.Nat.{ℕ}
-use mathlib.Core.Path.{◌≡◌, sym, ap, ◌∙◌}
-use native.Mathlib.Omega.{arith}
 use borrow.Author.Rules.{rules}
-use lib.ListN.{length, replicate, length-replicate}
+use lib.ListN.{replicate}
 use Rattle.files.specs.Files.{files_of}
-use Rattle.steps.specs.Steps.{steps_a_day}
 use Rattle.group.specs.Group.{answers_long}
-use Rattle.group.proofs.GroupAnswers.{roll_answers_long}
 use Rattle.cardline.proofs.GroupLines.{group_put}
 use Rattle.cardline.proofs.put_lines.Goals as goal
 

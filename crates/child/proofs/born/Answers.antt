@@ -1,7 +1,6 @@
 -- `child::born` meets its contract: refused by its burden, or the newborn child.
 use Prim.Native.Nat.{min}
 use mathlib.Core.Path.{◌≡◌, ap₂, ◌∙◌}
-use native.Mathlib.Omega.{arith}
 use lib.ListN.{length}
 use borrow.Author.Rules.{rules}
 use Rattle.blood.specs.Birth.{birth_state}

@@ -1,6 +1,5 @@
 -- `child::child_month` meets its contract: refused by its state, or the month after.
 use mathlib.Core.Path.{sym, ◌∙◌}
-use borrow.Author.Rules.{rules}
 use Rattle.steps.specs.Steps.{steps_a_day}
 use Rattle.child.proofs.MonthAnswers.{child_refused, child_passed}
 use Rattle.child.proofs.child_month.Goals as goal

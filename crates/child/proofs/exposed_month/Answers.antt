@@ -1,6 +1,5 @@
 -- `child::exposed_month` meets its contract: refused by its intakes, or its steps at its row with its uptake.
 use mathlib.Core.Path.{◌≡◌, sym, ap, ◌∙◌}
-use borrow.Author.Rules.{rules}
 use Rattle.intake.specs.Intake.{refusal_of, intake_refusal}
 use Rattle.uptake.proofs.PassedIntakes.{pass_intakes}
 use Rattle.steps.specs.Steps.{steps_a_day}

@@ -1,6 +1,5 @@
 -- `child::given_month` meets its contract: refused by its state, or the month by its exposure.
 use mathlib.Core.Path.{sym, ◌∙◌}
-use borrow.Author.Rules.{rules}
 use Rattle.steps.specs.Steps.{steps_a_day}
 use Rattle.child.proofs.MonthAnswers.{given_refused, given_passed}
 use Rattle.child.proofs.given_month.Goals as goal

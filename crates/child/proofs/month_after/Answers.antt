@@ -1,7 +1,6 @@
 -- `child::month_after` meets its contract: the month of the exposure, the row and the body weight that the files give.
 use mathlib.Core.Path.{ap, ◌∙◌}
 use native.Mathlib.Omega.{arith}
-use borrow.Author.Rules.{rules}
 use Rattle.exposure.specs.Exposure.{exposure_at}
 use Rattle.row.specs.declared.Row.{Row}
 use Rattle.steps.specs.Steps.{steps_a_day}

@@ -1,6 +1,5 @@
 -- `child::stepped_month` meets its contract: refused at a step, or the month that thirty days leave.
 use mathlib.Core.Path.{◌∙◌}
-use borrow.Author.Rules.{rules}
 use Rattle.steps.specs.Steps.{steps_a_day}
 use Rattle.state.proofs.SoundState.{passed_before}
 use Rattle.child.proofs.MonthAnswers.{month_steppable, stepped_refused, stepped_accepted}

@@ -2,7 +2,7 @@
 use mathlib.Core.Path.{sym}
 use borrow.Author.Tests.{eq-eqb, ne_eqb}
 use Rattle.numbers.specs.Choice.{unless}
-use Rattle.numbers.proofs.Refusals.{or_else_first, or_else-last}
+use Rattle.numbers.proofs.Refusals.{or_else-last}
 use Rattle.row.specs.Row.{last_month}
 use Rattle.engine.proofs.head_refusal.Goals as goal
 

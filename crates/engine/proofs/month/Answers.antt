@@ -1,6 +1,5 @@
 -- `engine::month` meets its contract: refused by its files, or a month of the child of accepted files.
-use mathlib.Core.Path.{sym, ◌∙◌}
-use borrow.Author.Rules.{rules}
+use mathlib.Core.Path.{◌∙◌}
 use Rattle.steps.specs.Steps.{steps_a_day}
 use Rattle.engine.proofs.FilesDecoded.{files_read_decoded, files_long}
 use Rattle.engine.proofs.CallAnswers.{month_files_refused, month_files_read}

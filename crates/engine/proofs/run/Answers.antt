@@ -1,6 +1,4 @@
 -- `engine::run` meets its contract: refused before its first month, or the months.
-use mathlib.Core.Path.{sym}
-use borrow.Author.Rules.{rules}
 use Rattle.steps.specs.Steps.{steps_a_day}
 use Rattle.files.specs.Files.{files_if}
 use Rattle.engine.proofs.CallAnswers.{run_refused, places_are_months, start_long, start_decoded, run_months}

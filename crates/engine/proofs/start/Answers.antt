@@ -1,5 +1,4 @@
 -- `engine::start` meets its contract: refused before birth, or born.
-use borrow.Author.Rules.{rules}
 use Rattle.files.specs.Files.{files_if}
 use Rattle.engine.proofs.FilesDecoded.{files_long, files_read_decoded}
 use Rattle.engine.proofs.CallAnswers.{start_refused, read_passed, start_born}

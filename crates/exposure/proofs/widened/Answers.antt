@@ -1,11 +1,9 @@
 -- `exposure::widened` meets its contract: the fields copied so far are the first of the fields.
-use mathlib.Core.Path.{◌≡◌, refl, ◌∙◌}
-use Prim.Native.Nat.{◌-◌}
-use lib.ListN.{length}
+use mathlib.Core.Path.{refl, ◌∙◌}
 use borrow.Author.Rules.{rules}
 use Rattle.numbers.proofs.Every.{tab-get_or}
-use Rattle.numbers.proofs.Loops.{Filled, filled_none, filled_next, filled_all}
-use Rattle.site.specs.Fields.{field_count, at}
+use Rattle.numbers.proofs.Loops.{filled_none, filled_next, filled_all}
+use Rattle.site.specs.Fields.{field_count}
 use Rattle.exposure.proofs.widened.Goals as goal
 
 pub loop-i-init : goal.loop-i-init

@@ -1,10 +1,8 @@
 -- `exposure::widened` meets its contract: the fields copied so far are the first of the fields.
-use mathlib.Core.Path.{◌≡◌, refl, ◌∙◌}
+use mathlib.Core.Path.{◌≡◌}
 use Prim.Native.Nat.{◌-◌}
 use lib.ListN.{length}
-use borrow.Author.Rules.{rules}
-use Rattle.numbers.proofs.Every.{tab-get_or}
-use Rattle.numbers.proofs.Loops.{Filled, filled_none, filled_next, filled_all}
+use Rattle.numbers.proofs.Loops.{Filled}
 use Rattle.site.specs.Fields.{field_count, at}
 use Rattle.exposure.proofs.widened.Given as goal
 

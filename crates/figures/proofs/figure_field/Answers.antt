@@ -1,6 +1,5 @@
 -- `figures::figure_field` meets its contract.
 use mathlib.Core.Path.{◌∙◌, sym}
-use borrow.Author.Rules.{rules}
 use Rattle.figures.proofs.Figures.{figure-star, figure-other}
 use Rattle.figures.proofs.figure_field.Goals as goal
 

@@ -1,8 +1,7 @@
 -- `figures::fraction` meets its contract.
 use native.Mathlib.Omega.{arith}
-use borrow.Author.Rules.{rules}
 use Rattle.figures.specs.Internal.{most_whole}
-use Rattle.figures.proofs.Figures.{fraction_none, fraction_long, fraction-is, times_is, whole_most}
+use Rattle.figures.proofs.Figures.{fraction_none, fraction_long, fraction-is, times_is}
 use Rattle.figures.proofs.fraction.Goals as goal
 
 pub returns-then-s-eq0 : goal.returns-then-s-eq0

@@ -1,6 +1,5 @@
 -- `figures::plain_field` meets its contract.
 use mathlib.Core.Path.{◌∙◌, sym}
-use borrow.Author.Rules.{rules}
 use Rattle.figures.proofs.Figures.{plain_star, plain_other}
 use Rattle.figures.proofs.plain_field.Goals as goal
 

@@ -1,9 +1,6 @@
 -- `figures::point_at` meets its contract.
-use Prim.Native.Nat.{◌-◌}
-use native.Mathlib.Omega.{arith}
-use lib.ListN.{length}
 use Rattle.text.specs.Characters.{point}
-use Rattle.figures.proofs.Points.{Past, past_here, past_more, past_end}
+use Rattle.figures.proofs.Points.{past_here, past_more, past_end}
 use Rattle.figures.proofs.point_at.Goals as goal
 
 pub returns-then-s-i-eq-POINT : goal.returns-then-s-i-eq-POINT

@@ -1,12 +1,9 @@
 -- `figures::thousandths` meets its contract.
 use mathlib.Core.Path.{sym}
 use native.Mathlib.Omega.{arith}
-use borrow.Author.Rules.{rules}
-use lib.ListN.{length-drop, length-take}
 use lib.Seq.{length-take-le}
-use Rattle.figures.specs.Internal.{most_whole}
 use Rattle.figures.proofs.Points.{up_le}
-use Rattle.figures.proofs.Figures.{rest_is, thousandths-is, times_is, whole_most}
+use Rattle.figures.proofs.Figures.{thousandths-is}
 use Rattle.figures.proofs.thousandths.Goals as goal
 
 pub slice_bounds-whole-end : goal.slice_bounds-whole-end

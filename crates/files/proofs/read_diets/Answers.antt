@@ -1,7 +1,5 @@
 -- `files::read_diets` meets its contract: a block that is refused, its diets, or no block.
-use borrow.Author.Rules.{rules}
 use Rattle.foods.proofs.FiguresWithin.{read_within}
-use Rattle.files.proofs.ReadAnswers.{no_foods, refused_by_foods, foods_taken}
 use Rattle.files.proofs.read_diets.Goals as goal
 
 pub diets_of-eaten-requires : goal.diets_of-eaten-requires

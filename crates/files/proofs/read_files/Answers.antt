@@ -1,5 +1,4 @@
 -- `files::read_files` meets its contract: what is read on the way gives the refusal, the number of blocks decoded, the scenario and the table.
-use borrow.Author.Rules.{rules}
 use Rattle.files.specs.Files.{files_if}
 use Rattle.files.proofs.ReadAnswers.{files_read}
 use Rattle.files.proofs.read_files.Goals as goal

@@ -4,7 +4,6 @@ use mathlib.Core.List.{[], ◌∷◌}
 use Rattle.numbers.specs.Choice.{unless, first_of}
 use Rattle.foods.specs.Internal.{Decoded}
 use Rattle.foods.proofs.ReadAnswers.{stored, stored_figures, refused_length, refused_header, decoded_tested}
-use borrow.Author.Rules.{rules}
 use Rattle.foods.proofs.decode.Goals as goal
 use Rattle.foods.proofs.decode.Goals.{After-amounts_fit-amounts}
 
@@ -22,7 +21,7 @@ pub returns-then-block-ne-FOODS_BYTES : goal.returns-then-block-ne-FOODS_BYTES
 returns-then-block-ne-FOODS_BYTES c = refused_length c.args.block.now c.args.figures.now c.requires c.if-block-ne-FOODS_BYTES.true
 
 pub returns-then-refusal-ne0 : goal.returns-then-refusal-ne0
-returns-then-refusal-ne0 c = 
+returns-then-refusal-ne0 c =
     refused_header c.args.block.now c.args.figures.now c.requires c.if-block-ne-FOODS_BYTES.false c.block_refusal-refusal.result
     c.block_refusal-refusal.ensures c.if-refusal-ne0.true
 

@@ -1,5 +1,5 @@
 -- `group::answer_roll` meets its contract: the files are refused, or each row answers by its course.
-use mathlib.Core.Path.{sym, ap, ◌∙◌}
+use mathlib.Core.Path.{ap, ◌∙◌}
 use native.Mathlib.Omega.{arith}
 use Rattle.steps.specs.Steps.{steps_a_day}
 use Rattle.engine.proofs.FilesDecoded.{files_long}

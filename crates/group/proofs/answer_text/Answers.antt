@@ -5,7 +5,6 @@ use Rattle.files.specs.Files.{files_if}
 use Rattle.steps.specs.Steps.{steps_a_day}
 use Rattle.group.specs.Group.{answered}
 use Rattle.group.proofs.GroupAnswers.{taken_few, text_answered, text_read}
-use borrow.Author.Rules.{rules}
 use Rattle.group.proofs.answer_text.Goals as goal
 
 pub overflow_cast-result : goal.overflow_cast-result

@@ -4,7 +4,6 @@ use Prim.Native.Nat.{◌<◌}
 use Rattle.card.specs.Values.{months_of}
 use native.Mathlib.Omega.{arith}
 use Rattle.steps.specs.Steps.{steps_a_day}
-use borrow.Author.Rules.{rules}
 use Rattle.group.proofs.card_month.Goals as goal
 
 pub returns-then-age-done : goal.returns-then-age-done

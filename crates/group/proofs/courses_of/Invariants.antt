@@ -1,15 +1,12 @@
 -- `group::courses_of` meets its contract: after the months done each row's course is as it is alone, and in a month the rows take their turns.
 use Prim.Native.Nat.{◌+◌, ◌-◌, ◌≤◌}
-use mathlib.Core.Path.{◌≡◌, refl}
-use native.Mathlib.Omega.{arith}
-use borrow.Author.Rules.{rules}
-use lib.ListN.{length, length-set, length-replicate}
-use Rattle.numbers.proofs.Turns.{AllBy, Turned, turn_start, turn_next, turn_end}
+use mathlib.Core.Path.{◌≡◌}
+use lib.ListN.{length}
+use Rattle.numbers.proofs.Turns.{AllBy, Turned}
 use Rattle.steps.specs.Steps.{steps_a_day}
-use Rattle.child.specs.declared.Course.{Course}
 use Rattle.roll.specs.Words.{rows_a_group}
 use Rattle.group.specs.Internal.{no_course, GroupMonth}
-use Rattle.group.proofs.GroupCourses.{courses_at, courses_born, courses_ended, ready_decoded, group_month, month_for, row_goes_on}
+use Rattle.group.proofs.GroupCourses.{courses_at}
 use Rattle.group.proofs.courses_of.Given as goal
 
 abbrev pub invariant-loop-i : goal.invariant-loop-i

@@ -1,10 +1,6 @@
 -- `group::last_month` meets its contract: the last month of the rows so far.
-use Prim.Native.Nat.{◌-◌, ◌≤◌}
-use mathlib.Core.Path.{◌≡◌}
 use native.Mathlib.Omega.{arith}
-use Rattle.group.specs.Internal.{LastMonth}
-use Rattle.group.proofs.GroupCourses.{last_none, last-next}
-use borrow.Author.Rules.{rules}
+use Rattle.group.proofs.GroupCourses.{last-next}
 use Rattle.group.proofs.last_month.Goals as goal
 
 pub loop-i-preserved : goal.loop-i-preserved

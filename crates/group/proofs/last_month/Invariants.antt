@@ -1,10 +1,6 @@
 -- `group::last_month` meets its contract: the last month of the rows so far.
 use Prim.Native.Nat.{◌-◌, ◌≤◌}
-use mathlib.Core.Path.{◌≡◌}
-use native.Mathlib.Omega.{arith}
 use Rattle.group.specs.Internal.{LastMonth}
-use Rattle.group.proofs.GroupCourses.{last_none, last-next}
-use borrow.Author.Rules.{rules}
 use Rattle.group.proofs.last_month.Given as goal
 
 abbrev pub invariant-loop-i : goal.invariant-loop-i

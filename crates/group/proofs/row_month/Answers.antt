@@ -1,10 +1,6 @@
 -- `group::row_month` meets its contract: by what becomes of the row.
-use Prim.Native.Nat.{◌+◌}
-use mathlib.Core.Path.{sym, ap, ◌∙◌}
-use Rattle.group.specs.Internal.{course_by}
 use Rattle.steps.specs.Steps.{steps_a_day}
 use Rattle.group.proofs.GroupCourses.{skipped_rests, refused_rests}
-use borrow.Author.Rules.{rules}
 use Rattle.group.proofs.row_month.Goals as goal
 
 pub returns-in-Skipped : goal.returns-in-Skipped

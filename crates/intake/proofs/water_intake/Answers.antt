@@ -1,10 +1,7 @@
 -- `intake::water_intake` meets its contract: each arm is one case of `water_intake_by`.
 use mathlib.Core.Path.{ap, ◌∙◌}
 use Prim.Native.Nat.{ℕ, ◌*◌, ◌/◌}
-use native.Mathlib.Omega.{arith}
-use Rattle.intake.proofs.Fits.{constant_most, drunk_most}
 use Rattle.intake.proofs.BySource.{water_by_source}
-use borrow.Author.Rules.{rules}
 use Rattle.intake.proofs.water_intake.Goals as goal
 
 pub returns-in-Constant : goal.returns-in-Constant

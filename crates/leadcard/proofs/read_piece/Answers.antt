@@ -1,5 +1,5 @@
 -- A walk stays within its piece, goes on, and leads where the piece leads. Assumes nothing.
-use Rattle.std.proofs.Common.{rules, arith, ◌≡◌, ◌∙◌, ◌-◌, length}
+use Rattle.std.proofs.Common.{arith, ◌∙◌, ◌-◌, length}
 use Rattle.leadcard.proofs.Onward.{used_within, used_onward, still_leads}
 use Rattle.leadcard.proofs.read_piece.Goals as goal
 

@@ -1,7 +1,6 @@
 -- `lines::begin` meets its contract.
 use native.Mathlib.Omega.{arith}
 use Rattle.lines.proofs.Steps.{begun-is}
-use borrow.Author.Rules.{rules}
 use Rattle.lines.proofs.begin.Goals as goal
 
 pub returns-then-marks-lt-TOO_MANY : goal.returns-then-marks-lt-TOO_MANY

@@ -3,7 +3,6 @@ use native.Mathlib.Omega.{arith}
 use mathlib.Core.Path.{◌∙◌, ap}
 use Rattle.lines.specs.Summary.{put}
 use Rattle.lines.proofs.Steps.{fed-space, fed_on, fed_first}
-use borrow.Author.Rules.{rules}
 use Rattle.lines.proofs.feed.Goals as goal
 
 pub returns-then-byte-eq-SPACE : goal.returns-then-byte-eq-SPACE

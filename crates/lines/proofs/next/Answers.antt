@@ -2,7 +2,6 @@
 use native.Mathlib.Omega.{arith}
 use mathlib.Core.Path.{refl}
 use Rattle.lines.proofs.Steps.{nothing-kept, next_line, next-byte, next_heading}
-use borrow.Author.Rules.{rules}
 use Rattle.lines.proofs.next.Goals as goal
 
 pub returns-then-headings-eq0 : goal.returns-then-headings-eq0

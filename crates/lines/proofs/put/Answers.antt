@@ -1,7 +1,6 @@
 -- `lines::put` meets its contract.
 use native.Mathlib.Omega.{arith}
 use Rattle.lines.proofs.Steps.{put_none, put_full, put-more}
-use borrow.Author.Rules.{rules}
 use Rattle.lines.proofs.put.Goals as goal
 
 pub returns-then-field-ge-FIELDS : goal.returns-then-field-ge-FIELDS

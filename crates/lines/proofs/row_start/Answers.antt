@@ -1,6 +1,5 @@
 -- `lines::row_start` meets its contract.
 use Rattle.lines.specs.Stream.{row_start}
-use borrow.Author.Rules.{rules}
 use Rattle.lines.proofs.row_start.Goals as goal
 
 pub returns : goal.returns

@@ -1,6 +1,5 @@
 -- `lines::start` meets its contract.
 use Rattle.lines.specs.Stream.{start}
-use borrow.Author.Rules.{rules}
 use Rattle.lines.proofs.start.Goals as goal
 
 pub returns : goal.returns

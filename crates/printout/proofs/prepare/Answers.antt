@@ -1,7 +1,6 @@
 -- `printout::prepare` meets its contract: what it keeps of the run is what the run answers and writes.
 use Rattle.files.specs.Files.{files_of}
 use Rattle.printout.proofs.MonthsAtMost.{kept_is}
-use borrow.Author.Rules.{rules}
 use Rattle.printout.proofs.prepare.Goals as goal
 
 pub returns : goal.returns

@@ -1,9 +1,7 @@
 -- `routes::exposed_sums` meets its contract: zeros if its intakes are refused, else the sums of the day's routes.
 use mathlib.Core.Path.{◌≡◌, sym, ap, ◌∙◌}
-use borrow.Author.Rules.{rules}
 use Rattle.intake.specs.Intake.{refusal_of, intake_refusal}
 use Rattle.uptake.proofs.PassedIntakes.{pass_intakes}
-use Rattle.uptake.proofs.RouteSums.{passive_limits, active_limits}
 use Rattle.routes.proofs.MonthSums.{exposed_none, exposed_some}
 use Rattle.routes.proofs.exposed_sums.Goals as goal
 

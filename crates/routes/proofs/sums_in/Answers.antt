@@ -1,9 +1,7 @@
 -- `routes::sums_in` meets its contract: the sums of the exposure and the body weights that the files give the month.
 use mathlib.Core.Path.{◌≡◌, ap, ◌∙◌}
-use borrow.Author.Rules.{rules}
 use Rattle.exposure.specs.Exposure.{exposure_at}
 use Rattle.child.specs.Month.{exposure_in}
-use Rattle.child.proofs.MonthAnswers.{limits-at}
 use Rattle.routes.proofs.MonthSums.{given_sums}
 use Rattle.routes.proofs.sums_in.Goals as goal
 

@@ -1,10 +1,7 @@
 -- `site::diets_in` meets its contract: the diets copied so far are the first of the group.
-use mathlib.Core.Path.{◌≡◌, refl}
-use Prim.Native.Nat.{◌-◌}
-use lib.ListN.{length}
+use mathlib.Core.Path.{refl}
 use borrow.Author.Rules.{rules}
-use Rattle.numbers.proofs.Loops.{Filled, filled_none, filled_next, filled_all}
-use Rattle.site.specs.Fields.{field_count, ages, by_age, diet_group}
+use Rattle.numbers.proofs.Loops.{filled_none, filled_next}
 use Rattle.site.proofs.diets_in.Goals as goal
 
 pub loop-age-init : goal.loop-age-init

@@ -1,9 +1,8 @@
 -- `site::diets_in` meets its contract: the diets copied so far are the first of the group.
-use mathlib.Core.Path.{◌≡◌, refl}
+use mathlib.Core.Path.{◌≡◌}
 use Prim.Native.Nat.{◌-◌}
 use lib.ListN.{length}
-use borrow.Author.Rules.{rules}
-use Rattle.numbers.proofs.Loops.{Filled, filled_none, filled_next, filled_all}
+use Rattle.numbers.proofs.Loops.{Filled}
 use Rattle.site.specs.Fields.{field_count, ages, by_age, diet_group}
 use Rattle.site.proofs.diets_in.Given as goal
 

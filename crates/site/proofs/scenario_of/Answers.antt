@@ -1,5 +1,4 @@
 -- `site::scenario_of` meets its contract: the modes' contracts give the sources, and the diets are the fields'.
-use borrow.Author.Rules.{rules}
 use Rattle.site.specs.Scenario.{scenario_of}
 use Rattle.site.proofs.scenario_of.Goals as goal
 

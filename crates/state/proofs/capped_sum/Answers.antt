@@ -1,13 +1,11 @@
 -- `state::capped_sum` meets its contract: the capped sum so far is that of the amounts passed.
-use Prim.Native.Nat.{ℕ, ◌-◌, ◌≤◌, min}
-use mathlib.Core.Path.{◌≡◌, refl}
+use Prim.Native.Nat.{ℕ}
+use mathlib.Core.Path.{refl}
 use mathlib.Core.List.{List}
 use native.Mathlib.Omega.{arith}
-use lib.ListN.{length, get_or}
-use borrow.Author.Rules.{rules}
+use lib.ListN.{get_or}
 use Rattle.numbers.specs.Sums.{sum_to}
-use Rattle.state.specs.Internal.{cap}
-use Rattle.state.proofs.StateCheck.{cap-next, cap-whole}
+use Rattle.state.proofs.StateCheck.{cap-next}
 use Rattle.state.proofs.capped_sum.Goals as goal
 
 abbrev amount_at : List ℕ → ℕ → ℕ

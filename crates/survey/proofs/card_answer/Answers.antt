@@ -1,6 +1,4 @@
 -- `survey::card_answer` meets its contract.
-use borrow.Author.Rules.{rules}
-use native.Mathlib.Omega.{arith}
 use Rattle.steps.specs.Steps.{steps_a_day}
 use Rattle.survey.proofs.RowAnswers.{row_decoded, card-answered}
 use Rattle.survey.proofs.card_answer.Goals as goal

@@ -1,6 +1,5 @@
 -- `survey::kept_answer` meets its contract.
-use borrow.Author.Rules.{rules}
-use mathlib.Core.Path.{sym, ◌∙◌}
+use mathlib.Core.Path.{◌∙◌}
 use Rattle.steps.specs.Steps.{steps_a_day}
 use Rattle.engine.proofs.FilesDecoded.{files_long}
 use Rattle.survey.proofs.RowAnswers.{files_refused, files_read_ready, files_answered}

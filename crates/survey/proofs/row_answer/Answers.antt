@@ -1,5 +1,4 @@
 -- `survey::row_answer` meets its contract.
-use borrow.Author.Rules.{rules}
 use mathlib.Core.Path.{◌∙◌}
 use Rattle.steps.specs.Steps.{steps_a_day}
 use Rattle.survey.proofs.RowLaws.{kept_law}

@@ -1,10 +1,6 @@
 -- `text::put_text` meets its contract: the bytes put so far are the first of the text.
-use Prim.Native.Nat.{◌+◌, ◌-◌, ◌≤◌}
 use native.Mathlib.Omega.{arith}
-use borrow.Author.Rules.{rules}
-use lib.ListN.{length, take}
-use Rattle.text.specs.Internal.{Put}
-use Rattle.text.proofs.Puts.{text_none, text_next, text_whole}
+use Rattle.text.proofs.Puts.{text_next}
 use Rattle.text.proofs.put_text.Goals as goal
 
 pub loop-put-preserved : goal.loop-put-preserved

@@ -1,10 +1,8 @@
 -- `block::read::blank` meets its contract: the numbers set so far are zeros.
 use mathlib.Core.Path.{refl, ◌∙◌}
-use Prim.Native.Nat.{◌-◌}
-use lib.ListN.{length}
 use borrow.Author.Rules.{rules}
 use Rattle.numbers.proofs.Every.{tab_zeros}
-use Rattle.numbers.proofs.Loops.{Filled, filled_none, filled_next, filled_all}
+use Rattle.numbers.proofs.Loops.{filled_none, filled_next, filled_all}
 use Rattle.block.proofs.read.blank.Goals as goal
 
 pub loop-i-init : goal.loop-i-init

@@ -1,9 +1,6 @@
 -- `block::read::block_refusal` meets its contract: each way out is one case of `block_refusal`.
-use borrow.Author.Rules.{rules}
-use mathlib.Core.Path.{◌≡◌, sym, ◌∙◌}
-use mathlib.Core.Bool.{Bool}
+use mathlib.Core.Path.{sym, ◌∙◌}
 use Rattle.numbers.specs.Choice.{unless}
-use Rattle.block.specs.Block.{block_refusal}
 use Rattle.block.proofs.BlockRefusals.{refused_check, refused_edition, refused_number, refused_reserved}
 use Rattle.block.proofs.read.block_refusal.Goals as goal
 
@@ -11,12 +8,12 @@ pub returns-then-check-right : goal.returns-then-check-right
 returns-then-check-right c = refused_check _ _ c.field_at-check.ensures c.check_of-right.ensures c.if-check-right.true
 
 pub returns-then-its_edition-due : goal.returns-then-its_edition-due
-returns-then-its_edition-due c = 
+returns-then-its_edition-due c =
     refused_edition _ _ c.field_at-check.ensures c.check_of-right.ensures
     c.if-check-right.false c.word_at-its_edition.ensures.0 c.if-its_edition-due.true
 
 pub returns-then-its_number-due : goal.returns-then-its_number-due
-returns-then-its_number-due c = 
+returns-then-its_number-due c =
     refused_number _ _ c.field_at-check.ensures c.check_of-right.ensures
     c.if-check-right.false c.word_at-its_edition.ensures.0 c.if-its_edition-due.false c.word_at-its_number.ensures.0 c.if-its_number-due.true
 

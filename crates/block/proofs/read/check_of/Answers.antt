@@ -1,10 +1,10 @@
 -- `block::read::check_of` meets its contract: the sum so far is over the words passed, and at most 65,535 * 254 for each.
 use mathlib.Core.Path.{ap}
-use Prim.Native.Nat.{ℕ, ◌+◌, ◌*◌, ◌-◌, ◌≤◌}
+use Prim.Native.Nat.{ℕ, ◌+◌, ◌*◌, ◌≤◌}
 use native.Mathlib.Omega.{arith}
-use Rattle.numbers.proofs.Loops.{Summed, summed_none, summed_next, summed_all}
-use Rattle.block.specs.Block.{checked_words, check_of}
-use Rattle.block.proofs.BlockRefusals.{weighed, word_part_le}
+use Rattle.numbers.proofs.Loops.{summed_none, summed_next, summed_all}
+use Rattle.block.specs.Block.{check_of}
+use Rattle.block.proofs.BlockRefusals.{word_part_le}
 use Rattle.block.proofs.read.check_of.Goals as goal
 use Rattle.block.proofs.read.check_of.Goals.{After-word_at-word}
 
@@ -16,7 +16,7 @@ pub loop-n-init : goal.loop-n-init
 loop-n-init c = summed_none _ _ _ _
 
 pub loop-n-preserved : goal.loop-n-preserved
-loop-n-preserved c = 
+loop-n-preserved c =
     let l = c.loop-n in
     summed_next l.invariant c.loop-n-test.true (ap (λ (w : ℕ). w * (l.n + 1)) c.word_at-word.ensures.0) (part_le (goal.at.loop-n-preserved c).After-word_at-word)
 

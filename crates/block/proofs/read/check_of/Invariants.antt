@@ -1,10 +1,8 @@
 -- `block::read::check_of` meets its contract: the sum so far is over the words passed, and at most 65,535 * 254 for each.
-use mathlib.Core.Path.{ap}
-use Prim.Native.Nat.{ℕ, ◌+◌, ◌*◌, ◌-◌, ◌≤◌}
-use native.Mathlib.Omega.{arith}
-use Rattle.numbers.proofs.Loops.{Summed, summed_none, summed_next, summed_all}
-use Rattle.block.specs.Block.{checked_words, check_of}
-use Rattle.block.proofs.BlockRefusals.{weighed, word_part_le}
+use Prim.Native.Nat.{◌-◌}
+use Rattle.numbers.proofs.Loops.{Summed}
+use Rattle.block.specs.Block.{checked_words}
+use Rattle.block.proofs.BlockRefusals.{weighed}
 use Rattle.block.proofs.read.check_of.Given as goal
 
 abbrev pub invariant-loop-n : goal.invariant-loop-n

@@ -1,12 +1,8 @@
 -- `block::read::is_zero` meets its contract: what is left to look at answers as the whole does.
-use mathlib.Core.Path.{◌≡◌, sym, ◌∙◌, refl}
-use Prim.Native.Nat.{◌-◌}
-use native.Mathlib.Omega.{arith}
+use mathlib.Core.Path.{sym, ◌∙◌, refl}
 use borrow.Author.Tests.{eq-eqb, ne_eqb}
-use Rattle.numbers.specs.Choice.{every}
 use Rattle.numbers.proofs.Every.{every-next, every_stop, every_done}
 use Rattle.block.specs.Block.{zeros_from}
-use Rattle.block.proofs.BlockRefusals.{is_zero}
 use Rattle.block.proofs.read.is_zero.Goals as goal
 
 pub loop-i-init : goal.loop-i-init
@@ -14,13 +10,13 @@ unfolding zeros_from
 loop-i-init c = refl
 
 pub returns-then-byte-ne0 : goal.returns-then-byte-ne0
-returns-then-byte-ne0 c = 
+returns-then-byte-ne0 c =
     let l = c.loop-i in
     every_stop _ l.i _ l.invariant c.loop-i-test.true
     (ne_eqb _ 0 (λ e. c.if-byte-ne0.true (c.byte_at-byte.ensures ∙ e)))
 
 pub loop-i-preserved : goal.loop-i-preserved
-loop-i-preserved c = 
+loop-i-preserved c =
     let l = c.loop-i in
     every-next _ l.i _ l.invariant c.loop-i-test.true
     (eq-eqb _ 0 (sym c.byte_at-byte.ensures ∙ c.if-byte-ne0.false))

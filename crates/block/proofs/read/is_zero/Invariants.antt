@@ -1,10 +1,7 @@
 -- `block::read::is_zero` meets its contract: what is left to look at answers as the whole does.
-use mathlib.Core.Path.{◌≡◌, sym, ◌∙◌, refl}
+use mathlib.Core.Path.{◌≡◌}
 use Prim.Native.Nat.{◌-◌}
-use native.Mathlib.Omega.{arith}
-use borrow.Author.Tests.{eq-eqb, ne_eqb}
 use Rattle.numbers.specs.Choice.{every}
-use Rattle.numbers.proofs.Every.{every-next, every_stop, every_done}
 use Rattle.block.specs.Block.{zeros_from}
 use Rattle.block.proofs.BlockRefusals.{is_zero}
 use Rattle.block.proofs.read.is_zero.Given as goal

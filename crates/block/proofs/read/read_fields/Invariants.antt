@@ -1,10 +1,7 @@
 -- `block::read::read_fields` meets its contract: the fields stored so far are the first of `fields_from`.
-use mathlib.Core.Path.{refl}
 use Prim.Native.Nat.{◌-◌}
 use lib.ListN.{length}
-use borrow.Author.Rules.{rules}
-use Rattle.numbers.proofs.Loops.{Filled, filled_none, filled_next, filled_all}
-use Rattle.block.specs.Block.{fields_from}
+use Rattle.numbers.proofs.Loops.{Filled}
 use Rattle.block.proofs.BlockRefusals.{field_from}
 use Rattle.block.proofs.read.read_fields.Given as goal
 

@@ -1,11 +1,8 @@
 -- `block::read::read_words` meets its contract: the words stored so far are the first of `words_from`.
 use mathlib.Core.Path.{refl}
-use Prim.Native.Nat.{◌-◌}
-use lib.ListN.{length}
 use borrow.Author.Rules.{rules}
-use Rattle.numbers.proofs.Loops.{Filled, filled_none, filled_next, filled_all}
+use Rattle.numbers.proofs.Loops.{filled_none, filled_next, filled_all}
 use Rattle.block.specs.Block.{words_from}
-use Rattle.block.proofs.BlockRefusals.{word_from}
 use Rattle.block.proofs.read.read_words.Goals as goal
 
 pub loop-k-init : goal.loop-k-init

@@ -1,5 +1,4 @@
 -- `block::read::word_at` meets its contract: the two bytes' contracts give the word.
-use borrow.Author.Rules.{rules}
 use native.Mathlib.Omega.{arith}
 use Rattle.block.specs.Block.{word_at}
 use Rattle.block.proofs.read.word_at.Goals as goal

@@ -1,8 +1,5 @@
 -- `block::write::put_field` meets its contract: the four stores are `sets` of the four bytes.
-use borrow.Author.Rules.{rules}
 use native.Mathlib.Numerals.{add-one, add-two, add-three}
-use native.Mathlib.Omega.{arith}
-use lib.ListN.{length-set}
 use Rattle.block.specs.Writer.{le32}
 use Rattle.block.proofs.write.put_field.Goals as goal
 

@@ -1,7 +1,6 @@
 -- `blood::birth::birth_state` meets its contract: the products fit, and `birth_state_is` puts the state together.
 use native.Mathlib.Omega.{arith}
-use Rattle.blood.proofs.BirthAmounts.{total_fits, plasma_fits, red_cell_rates_fit, plasma_le_total, birth_state_is}
-use borrow.Author.Rules.{rules}
+use Rattle.blood.proofs.BirthAmounts.{red_cell_rates_fit, birth_state_is}
 use Rattle.blood.proofs.birth.birth_state.Goals as goal
 
 pub overflow_add-plasma : goal.overflow_add-plasma

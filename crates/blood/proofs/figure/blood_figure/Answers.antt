@@ -3,8 +3,7 @@ use mathlib.Core.Path.{refl}
 use native.Mathlib.Omega.{arith}
 use Rattle.blood.specs.Blood.{ecf_volume, plasma_part, blood_of}
 use Rattle.numbers.proofs.Bounds.{is}
-use Rattle.blood.proofs.FigureFits.{plasma_volume_fits, blood_lead_le, blood_law}
-use borrow.Author.Rules.{rules}
+use Rattle.blood.proofs.FigureFits.{blood_lead_le, blood_law}
 use Rattle.blood.proofs.figure.blood_figure.Goals as goal
 
 pub overflow_add-figure : goal.overflow_add-figure

@@ -1,5 +1,4 @@
 -- `cardline::rows::put_blood` meets its contract: each part put after the one before.
-use borrow.Author.Rules.{rules}
 use Rattle.cardline.proofs.RowLines.{put_blood}
 use Rattle.cardline.proofs.rows.put_blood.Goals as goal
 

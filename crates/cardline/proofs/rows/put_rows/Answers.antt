@@ -1,8 +1,5 @@
 -- `cardline::rows::put_rows` meets its contract: the lines so far are those of the first answers.
-use Prim.Native.Nat.{◌-◌}
-use native.Mathlib.Omega.{arith}
-use borrow.Author.Rules.{rules}
-use Rattle.cardline.proofs.RowLines.{LinesPut, no_lines, line_fits, next_line, all_lines}
+use Rattle.cardline.proofs.RowLines.{no_lines, next_line}
 use Rattle.cardline.proofs.rows.put_rows.Goals as goal
 
 pub loop-i-init : goal.loop-i-init

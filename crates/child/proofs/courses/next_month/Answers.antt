@@ -1,6 +1,5 @@
 -- `child::courses::next_month` meets its contract: the course as it is, or what the month answers.
 use mathlib.Core.Path.{◌∙◌}
-use borrow.Author.Rules.{rules}
 use Rattle.steps.specs.Steps.{steps_a_day}
 use Rattle.child.proofs.CourseSteps.{course_kept, course_month}
 use Rattle.child.proofs.courses.next_month.Goals as goal

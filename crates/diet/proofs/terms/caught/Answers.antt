@@ -1,7 +1,5 @@
 -- `diet::terms::caught` meets its contract: each factor has its bound.
-use native.Mathlib.Omega.{arith}
-use Rattle.diet.proofs.TermBounds.{times, caught_is}
-use borrow.Author.Rules.{rules}
+use Rattle.diet.proofs.TermBounds.{caught_is}
 use Rattle.diet.proofs.terms.caught.Goals as goal
 
 pub returns : goal.returns

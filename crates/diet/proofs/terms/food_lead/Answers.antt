@@ -1,7 +1,5 @@
 -- `diet::terms::food_lead` meets its contract: lead and grams are within their limits.
-use native.Mathlib.Omega.{arith}
-use Rattle.diet.proofs.TermBounds.{times, food_is}
-use borrow.Author.Rules.{rules}
+use Rattle.diet.proofs.TermBounds.{food_is}
 use Rattle.diet.proofs.terms.food_lead.Goals as goal
 
 pub returns : goal.returns

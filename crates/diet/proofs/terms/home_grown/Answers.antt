@@ -1,7 +1,5 @@
 -- `diet::terms::home_grown` meets its contract: each factor has its bound.
-use native.Mathlib.Omega.{arith}
-use Rattle.diet.proofs.TermBounds.{plus, times, home_is}
-use borrow.Author.Rules.{rules}
+use Rattle.diet.proofs.TermBounds.{home_is}
 use Rattle.diet.proofs.terms.home_grown.Goals as goal
 
 pub returns : goal.returns

@@ -1,7 +1,5 @@
 -- `diet::terms::in_meat` meets its contract: fish and game leave at most a hundred.
-use native.Mathlib.Omega.{arith}
-use Rattle.diet.proofs.TermBounds.{times, left_of_two, meat_is}
-use borrow.Author.Rules.{rules}
+use Rattle.diet.proofs.TermBounds.{meat_is}
 use Rattle.diet.proofs.terms.in_meat.Goals as goal
 
 pub returns : goal.returns

@@ -1,11 +1,8 @@
 -- `diet::terms::in_whole_foods` meets its contract: the sum so far is over the foods passed.
-use borrow.Author.Rules.{rules}
-use mathlib.Core.Path.{ap, ◌∙◌}
 use Prim.Native.Nat.{◌-◌}
-use native.Mathlib.Omega.{arith}
-use Rattle.numbers.proofs.Loops.{Summed, summed_none, summed_next, summed_all}
-use Rattle.diet.specs.Diet.{food_lead, whole_count, most_of_food}
-use Rattle.diet.proofs.TermBounds.{whole_at, whole_sum, whole_below}
+use Rattle.numbers.proofs.Loops.{Summed}
+use Rattle.diet.specs.Diet.{whole_count, most_of_food}
+use Rattle.diet.proofs.TermBounds.{whole_at}
 use Rattle.diet.proofs.terms.in_whole_foods.Given as goal
 
 abbrev pub invariant-loop-i : goal.invariant-loop-i

@@ -1,6 +1,5 @@
 -- `foods::limits::shares_fit` meets its contract: each way out is one case of `shares_fit`.
 use Rattle.foods.proofs.FigureTests.{caught-over, vegetable-over, fruit-last}
-use borrow.Author.Rules.{rules}
 use Rattle.foods.proofs.limits.shares_fit.Goals as goal
 
 pub returns-then-caught-gt-CAUGHT_MOST : goal.returns-then-caught-gt-CAUGHT_MOST

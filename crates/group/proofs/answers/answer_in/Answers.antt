@@ -1,5 +1,4 @@
 -- `group::answers::answer_in` meets its contract: what the words say, by the first of them.
-use borrow.Author.Rules.{rules}
 use Rattle.group.proofs.AnswerWords.{says_blood, says_skipped, says_refused}
 use Rattle.group.proofs.answers.answer_in.Goals as goal
 

@@ -2,7 +2,6 @@
 use mathlib.Core.Path.{◌∙◌}
 use Rattle.numbers.proofs.Parts.{placed_lent}
 use Rattle.group.specs.Group.{words_an_answer}
-use borrow.Author.Rules.{rules}
 use Rattle.group.proofs.answers.put_answer.Goals as goal
 
 pub returns : goal.returns

@@ -1,13 +1,10 @@
 -- `group::answers::put_courses` meets its contract: the rows so far answer by their courses.
 use Prim.Native.Nat.{◌-◌}
-use mathlib.Core.Path.{◌≡◌, sym, ◌∙◌}
-use native.Mathlib.Omega.{arith}
+use mathlib.Core.Path.{◌≡◌}
 use lib.ListN.{length}
 use Rattle.roll.specs.Words.{rows_a_group}
 use Rattle.group.specs.Internal.{end_answers}
-use Rattle.group.proofs.AnswerWords.{Answering, none_answered, next-answered}
-use Rattle.group.proofs.GroupAnswers.{ends_none, ends_more}
-use borrow.Author.Rules.{rules}
+use Rattle.group.proofs.AnswerWords.{Answering}
 use Rattle.group.proofs.answers.put_courses.Given as goal
 
 abbrev pub invariant-loop-i : goal.invariant-loop-i

@@ -1,14 +1,10 @@
 -- `group::answers::put_refused` meets its contract: the rows so far are refused, whatever they are.
 use Prim.Native.Nat.{ℕ, ◌-◌}
-use mathlib.Core.Path.{◌≡◌, sym, ◌∙◌}
-use mathlib.Core.List.{List, [], map}
-use native.Mathlib.Omega.{arith}
+use mathlib.Core.List.{List, map}
 use Rattle.cardsite.specs.declared.Start.{Start}
 use Rattle.survey.specs.declared.RowAnswer.TheVariants.{Refused}
 use Rattle.roll.specs.Words.{starts_in}
-use Rattle.group.proofs.AnswerWords.{Answering, none_answered, next-answered}
-use Rattle.group.proofs.GroupAnswers.{starts_none, starts_more}
-use borrow.Author.Rules.{rules}
+use Rattle.group.proofs.AnswerWords.{Answering}
 use Rattle.group.proofs.answers.put_refused.Given as goal
 
 abbrev pub invariant-loop-i : goal.invariant-loop-i

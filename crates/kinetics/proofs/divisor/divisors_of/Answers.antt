@@ -1,6 +1,5 @@
 -- `kinetics::divisor::divisors_of` meets its contract: `divisors_are` puts the divisors together.
 use Rattle.kinetics.proofs.Assembly.{divisors_are}
-use borrow.Author.Rules.{rules}
 use Rattle.kinetics.proofs.divisor.divisors_of.Goals as goal
 
 pub returns : goal.returns

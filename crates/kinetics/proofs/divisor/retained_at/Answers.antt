@@ -2,7 +2,6 @@
 use native.Mathlib.Omega.{arith}
 use Rattle.kinetics.proofs.DivisorMargin.{compartment_divisor_pos}
 use Rattle.kinetics.proofs.Bounds.{out-back_fits, retained_is, returning_le}
-use borrow.Author.Rules.{rules}
 use Rattle.kinetics.proofs.divisor.retained_at.Goals as goal
 
 pub overflow_mul-result : goal.overflow_mul-result

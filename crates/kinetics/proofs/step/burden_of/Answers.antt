@@ -1,7 +1,6 @@
 -- `kinetics::step::burden_of` meets its contract.
 use native.Mathlib.Omega.{arith}
 use Rattle.numbers.specs.Sums.{sum_to}
-use borrow.Author.Rules.{rules}
 use Rattle.kinetics.proofs.step.burden_of.Goals as goal
 
 pub overflow_add-result : goal.overflow_add-result

@@ -4,7 +4,6 @@ use Rattle.numbers.specs.Sums.{sum_to}
 use Rattle.kinetics.specs.Step.{inflow}
 use Rattle.numbers.proofs.Bounds.{is}
 use Rattle.kinetics.proofs.Bounds.{inflow_small}
-use borrow.Author.Rules.{rules}
 use Rattle.kinetics.proofs.step.inflow_of.Goals as goal
 
 pub returns : goal.returns

@@ -1,7 +1,6 @@
 -- `kinetics::step::new_amount` meets its contract, for any of the six.
 use native.Mathlib.Omega.{arith}
 use Rattle.kinetics.proofs.Bounds.{amount_le, inflow-at_fits, new_amount_is, compartments_pos}
-use borrow.Author.Rules.{rules}
 use Rattle.kinetics.proofs.step.new_amount.Goals as goal
 
 pub overflow_mul-result : goal.overflow_mul-result

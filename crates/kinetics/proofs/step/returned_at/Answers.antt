@@ -1,7 +1,6 @@
 -- `kinetics::step::returned_at` meets its contract, for any of the six.
 use native.Mathlib.Omega.{arith}
 use Rattle.kinetics.proofs.Bounds.{back-amount_fits, compartments_pos, returned_is}
-use borrow.Author.Rules.{rules}
 use Rattle.kinetics.proofs.step.returned_at.Goals as goal
 
 pub overflow_mul-result : goal.overflow_mul-result

@@ -2,9 +2,8 @@
 use mathlib.Core.Path.{ap}
 use Prim.Native.Nat.{ℕ, ◌+◌}
 use native.Mathlib.Omega.{arith}
-use Rattle.kinetics.proofs.Bounds.{urine_fits, exit_fits}
+use Rattle.kinetics.proofs.Bounds.{urine_fits}
 use Rattle.kinetics.proofs.Assembly.{Parts, parts_within_total, parts_make_next}
-use borrow.Author.Rules.{rules}
 use Rattle.kinetics.proofs.step.step.Goals as goal
 use Rattle.kinetics.proofs.step.step.Goals.{After-burden_of}
 

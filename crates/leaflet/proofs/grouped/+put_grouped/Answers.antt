@@ -1,9 +1,7 @@
 -- `leaflet::grouped::put_grouped` meets its contract: a number's digits are those of its thousands, and the last three. The measure is the number.
 use native.Mathlib.Omega.{arith}
-use borrow.Author.Rules.{rules}
 use Rattle.text.proofs.Puts.{put_as}
 use Rattle.leaflet.proofs.Threes.{grouped_one, thousands_end, put-grouped-last}
-use Prim.Native.Nat.{ℕ, ◌<◌}
 use Rattle.leaflet.proofs.grouped.+put_grouped.Goals as goal
 
 pub returns-then-n-lt1000 : goal.returns-then-n-lt1000

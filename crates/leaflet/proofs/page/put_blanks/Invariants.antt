@@ -1,8 +1,6 @@
 -- `leaflet::page::put_blanks` meets its contract: the bytes put so far are blanks.
 use Prim.Native.Nat.{◌-◌}
-use borrow.Author.Rules.{rules}
-use native.Mathlib.Omega.{arith}
-use Rattle.leaflet.proofs.Blanks.{Blanked, blanks_none, blanks_next, blanks_all}
+use Rattle.leaflet.proofs.Blanks.{Blanked}
 use Rattle.leaflet.proofs.page.put_blanks.Given as goal
 
 abbrev pub invariant-loop-put : goal.invariant-loop-put

@@ -1,11 +1,7 @@
 -- `lines::piece::to_row_end` meets its contract. The measure is the number of bytes left.
-use Prim.Native.Nat.{◌-◌}
-use mathlib.Core.Path.{◌≡◌, ap, ◌∙◌, sym}
-use borrow.Author.Rules.{rules}
-use lib.ListN.{length, drop}
+use mathlib.Core.Path.{ap, ◌∙◌, sym}
 use Rattle.lines.specs.Walk.{walk_of}
-use Rattle.lines.specs.Internal.{reader_of}
-use Rattle.lines.proofs.Walks.{bytes_then, none_before, walk_ends, walk-goes-on, walk-stops}
+use Rattle.lines.proofs.Walks.{walk_ends, walk-goes-on, walk-stops}
 use Rattle.lines.proofs.piece.to_row_end.Goals as goal
 
 pub returns-then-row_ends : goal.returns-then-row_ends

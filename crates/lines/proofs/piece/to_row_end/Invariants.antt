@@ -1,11 +1,10 @@
 -- `lines::piece::to_row_end` meets its contract. The measure is the number of bytes left.
 use Prim.Native.Nat.{◌-◌}
-use mathlib.Core.Path.{◌≡◌, ap, ◌∙◌, sym}
-use borrow.Author.Rules.{rules}
+use mathlib.Core.Path.{◌≡◌}
 use lib.ListN.{length, drop}
 use Rattle.lines.specs.Walk.{walk_of}
 use Rattle.lines.specs.Internal.{reader_of}
-use Rattle.lines.proofs.Walks.{bytes_then, none_before, walk_ends, walk-goes-on, walk-stops}
+use Rattle.lines.proofs.Walks.{bytes_then}
 use Rattle.lines.proofs.piece.to_row_end.Given as goal
 
 abbrev pub invariant-loop-used : goal.invariant-loop-used

@@ -1,5 +1,4 @@
 -- `printout::lines::put_month` meets its contract: each part put after the one before.
-use borrow.Author.Rules.{rules}
 use Rattle.printout.proofs.LineParts.{put_month}
 use Rattle.printout.proofs.lines.put_month.Goals as goal
 

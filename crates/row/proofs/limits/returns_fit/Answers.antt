@@ -1,10 +1,7 @@
 -- `row::limits::returns_fit` meets its contract: what is left to look at answers as the whole does.
-use mathlib.Core.Path.{◌≡◌, refl}
-use Prim.Native.Nat.{◌+◌, ◌-◌, ◌≤◌, ◌<◌}
-use native.Mathlib.Omega.{arith}
-use borrow.Author.Rules.{rules}
+use mathlib.Core.Path.{refl}
+use Prim.Native.Nat.{◌+◌, ◌≤◌, ◌<◌}
 use borrow.Author.Tests.{le-leb, lt-leb}
-use Rattle.numbers.specs.Choice.{every}
 use Rattle.numbers.proofs.Every.{every-next, every_stop, every_done}
 use Rattle.row.specs.Row.{unit, back, exit, returns_fit}
 use Rattle.row.proofs.RowTests.{return_fits}

@@ -1,7 +1,6 @@
 -- `row::limits::row_fits` meets its contract: the tests of volumes, weights and rates give the row's.
 use mathlib.Core.Path.{◌≡◌, sym, ◌∙◌}
 use mathlib.Core.Bool.{◌&&◌}
-use borrow.Author.Rules.{rules}
 use Rattle.row.specs.Row.{weights_fit, rates_fit, row_fits}
 use Rattle.row.proofs.limits.row_fits.Goals as goal
 use Rattle.row.proofs.limits.row_fits.Goals.{Then-volumes_fit}

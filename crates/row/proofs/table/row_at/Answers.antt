@@ -1,6 +1,5 @@
 -- `row::table::row_at` meets its contract: the row of its numbers.
 use mathlib.Core.Path.{ap, ◌∙◌}
-use borrow.Author.Rules.{rules}
 use Rattle.row.specs.Row.{row_from, row_of}
 use Rattle.row.proofs.table.row_at.Goals as goal
 

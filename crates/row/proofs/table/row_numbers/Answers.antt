@@ -1,11 +1,7 @@
 -- `row::table::row_numbers` meets its contract: the numbers copied so far are the row's first.
 use mathlib.Core.Path.{refl}
-use Prim.Native.Nat.{◌+◌, ◌-◌, ◌*◌}
-use native.Mathlib.Omega.{arith}
-use lib.ListN.{get_or}
-use borrow.Author.Rules.{rules}
-use Rattle.numbers.proofs.Loops.{Filled, filled_none, filled_next, filled_all}
-use Rattle.row.specs.Row.{numbers_a_row, row_numbers}
+use Rattle.numbers.proofs.Loops.{filled_none, filled_next, filled_all}
+use Rattle.row.specs.Row.{row_numbers}
 use Rattle.row.proofs.table.row_numbers.Goals as goal
 
 pub loop-k-init : goal.loop-k-init

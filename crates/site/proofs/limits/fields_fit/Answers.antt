@@ -1,10 +1,5 @@
 -- `site::limits::fields_fit` meets its contract: each way out is one case of `fields_fit`.
-use borrow.Author.Rules.{rules}
 use mathlib.Core.Path.{sym, ◌∙◌}
-use native.Mathlib.Omega.{arith}
-use mir.Syntax.{w32}
-use mir.Val.{Fits}
-use Rattle.site.specs.Fields.{first_draw_share_in, fountain_share_in}
 use Rattle.site.proofs.FieldTests.{unfit_limits, unfit_saturation, fit_shares}
 use Rattle.site.proofs.limits.fields_fit.Goals as goal
 

@@ -1,12 +1,8 @@
 -- `site::limits::within_limits` meets its contract: the constant list is that of the definition, and what is left to look at answers as the whole does.
-use mathlib.Core.Path.{◌≡◌, refl}
+use mathlib.Core.Path.{◌≡◌}
 use Prim.Native.Nat.{◌-◌}
-use native.Mathlib.Omega.{arith}
-use borrow.Author.Rules.{rules}
-use borrow.Author.Tests.{le-leb, lt-leb}
 use Rattle.numbers.specs.Choice.{every}
-use Rattle.numbers.proofs.Every.{every-next, every_stop, every_done}
-use Rattle.site.specs.Fields.{field_count, at, limits, within_limits}
+use Rattle.site.specs.Fields.{field_count, within_limits}
 use Rattle.site.proofs.FieldTests.{field_within}
 use Rattle.site.proofs.limits.within_limits.Given as goal
 

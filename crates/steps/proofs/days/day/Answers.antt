@@ -1,9 +1,6 @@
 -- `steps::days::day` meets its contract: at step k the shares from k on are left.
-use Prim.Native.Nat.{◌-◌}
 use native.Mathlib.Omega.{arith}
-use borrow.Author.Rules.{rules}
-use Rattle.steps.specs.Steps.{shares_from, day_shares}
-use Rattle.steps.proofs.Loops.{Ahead, day_start, day_sum_fits, day_refused, day_ready, day_next, day_end}
+use Rattle.steps.proofs.Loops.{day_sum_fits, day_refused, day_ready, day_next, day_end}
 use Rattle.steps.proofs.days.day.Goals as goal
 
 pub overflow_add-held : goal.overflow_add-held

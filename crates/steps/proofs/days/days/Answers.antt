@@ -1,8 +1,5 @@
 -- `steps::days::days` meets its contract: at day d the days from d on are left.
-use Prim.Native.Nat.{◌-◌}
-use borrow.Author.Rules.{rules}
-use Rattle.steps.specs.Steps.{days_a_month, days_shares}
-use Rattle.steps.proofs.Loops.{Ahead, month_start, day_steppable, month_refused, month_next, month_end_lem}
+use Rattle.steps.proofs.Loops.{day_steppable, month_refused, month_next, month_end_lem}
 use Rattle.steps.proofs.days.days.Goals as goal
 
 pub day-reached-requires : goal.day-reached-requires

@@ -1,10 +1,9 @@
 -- `uptake::parts::day_routes` meets its contract. The loop's invariant: both parts of the media passed are stored. The measure is the media left.
-use Prim.Native.Nat.{◌-◌, ◌≤◌}
+use Prim.Native.Nat.{◌≤◌}
 use native.Mathlib.Omega.{arith}
-use borrow.Author.Rules.{rules}
 use Rattle.site.specs.Fields.{at}
 use Rattle.uptake.proofs.PassedIntakes.{passed_air}
-use Rattle.uptake.proofs.PartLoops.{Parted, parted_none, parted_next, routes_all}
+use Rattle.uptake.proofs.PartLoops.{parted_none, parted_next, routes_all}
 use Rattle.uptake.proofs.Loops.{stored_most, stored_total_most}
 use Rattle.uptake.proofs.RouteSums.{routes_limits}
 use Rattle.uptake.proofs.parts.day_routes.Goals as goal

@@ -1,8 +1,6 @@
 -- `uptake::total::route_sum` meets its contract. The loop's invariant: the parts passed are summed. The measure is the media left.
-use Prim.Native.Nat.{◌-◌}
 use native.Mathlib.Omega.{arith}
-use borrow.Author.Rules.{rules}
-use Rattle.uptake.proofs.PartLoops.{PartsSummed, parts_none, parts_next, parts_all}
+use Rattle.uptake.proofs.PartLoops.{parts_none, parts_next, parts_all}
 use Rattle.uptake.proofs.total.route_sum.Goals as goal
 
 pub loop-medium-init : goal.loop-medium-init
