@@ -17,7 +17,8 @@ use std::os::unix::fs::symlink;
 use std::process::Command;
 
 /// What `rt run` says if nothing is to prove.
-const PROVED: &str = "rt: nothing has changed since the last proved build, so nothing is checked now\nrt: running it\n";
+const PROVED: &str =
+    "rt: nothing has changed since the last proved build, so nothing is checked now\nrt: running it\n";
 
 /// A copy of the script with what it needs.
 struct Copy {
