@@ -1,5 +1,6 @@
 // The rate book: 17 blocks of five month rows each, decoded once into a table of numbers, or refused.
 #![tactic(auto)]
+
 ghost use Rattle.std.specs.Prelude.{◌≡◌, ◌+◌, ◌<◌, length};
 ghost use Rattle.book.specs.Book.{book_blocks, book_bytes, table_numbers, book_form, book_refusal, book_decodes, book_table};
 ghost use Rattle.book.specs.Internal.{BlockDecoded, BookDecoded};

@@ -3,7 +3,6 @@
 use Prim.Native.Nat.{ℕ}
 use mathlib.Core.Path.{◌≡◌, ap, ◌∙◌}
 use mathlib.Core.Bool.{Bool, true, false, ◌||◌}
-use mathlib.Core.Logic.{◌⊎◌, inl, inr}
 use lib.ListN.{drop}
 use Rattle.card.specs.declared.Readings.{Readings}
 use Rattle.card.specs.Row.{wrong, readings_in, any_wrong}
@@ -16,14 +15,12 @@ pub or_first : (r : Readings) {b : Bool} → b ≡ wrong r.fam → SoFar 1 b r
 unfolding any_wrong
 or_first r e = ap (◌|| any_wrong (drop 1 (readings_in r))) e
 
--- v is the code's `p || test`: p is true and v is p, or p is false and v is the test's answer
-pub or-next :
-    {T E : Type 0} {W : E → Type 0} {g : (x : E) → W x → Bool} {v p : Bool} (w rest whole : Bool)
-    → (T × (v ≡ p)) ⊎ ((x : E) × (y : W x) × (v ≡ g x y))
-    → (T → p ≡ true) → (E → p ≡ false) → ((x : E) (y : W x) → g x y ≡ w) → p || (w || rest) ≡ whole
-    → v || rest ≡ whole
-or-next w rest whole (inl (t, e)) taken left is so = rw (e, taken t) (rw (taken t) at so)
-or-next w rest whole (inr (x, y, e)) taken left is so = rw (e, is x y) (rw (left x) at so)
+-- v is the code's `p || test`: p is true and v is p, or p is false and v is the test's answer b
+pub or_taken : {v p : Bool} (w rest whole : Bool) → p ≡ true → v ≡ p → p || (w || rest) ≡ whole → v || rest ≡ whole
+or_taken w rest whole t e so = rw (e, t) (rw t at so)
+
+pub or_left : {v p b : Bool} (w rest whole : Bool) → p ≡ false → v ≡ b → b ≡ w → p || (w || rest) ≡ whole → v || rest ≡ whole
+or_left w rest whole f e is so = rw (e, is) (rw f at so)
 
 -- the ways out: the flag is true, or it is false and the last test answers
 pub or_found : (p rest : Bool) {whole : Bool} → p ≡ true → p || rest ≡ whole → p ≡ whole

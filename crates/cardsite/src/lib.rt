@@ -1,5 +1,6 @@
 // A card over a site file's fields.
 #![tactic(auto)]
+
 ghost use Rattle.std.specs.Prelude.{◌≡◌, false, ◌+◌, ◌≤◌, ◌<◌, set};
 ghost use Rattle.site.specs.Fields.{ages, field_count, at, limits};
 ghost use Rattle.site.specs.Put.{put_from};

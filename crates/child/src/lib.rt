@@ -1,5 +1,6 @@
 // A child of accepted files: its birth, a month of it, and the months of a run.
 #![tactic(auto)]
+
 ghost use Rattle.std.specs.Prelude.{◌≡◌, ◌≤◌, ◌<◌, length};
 ghost use Rattle.row.specs.Limits.{RowLimits};
 ghost use Rattle.kinetics.specs.Step.{burden, burden_limit};

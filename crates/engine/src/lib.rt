@@ -1,6 +1,7 @@
 // The engine: birth, the month call and the run, on site files, foods blocks and rate books of any length and content. A call has a foods
 // block if `has_foods` says so; else its bytes are not looked at.
 #![tactic(auto)]
+
 ghost use Rattle.std.specs.Prelude.{◌≡◌, length};
 ghost use Rattle.numbers.specs.Choice.{first_of};
 ghost use Rattle.steps.specs.Steps.{steps_a_day};

@@ -126,7 +126,7 @@ part_by : (ds : List ℕ) (n : ℕ) (t : Bool) → leb (length ds) 3 ≡ t → c
 part_by ds n true t e =
     let k : ℕ = 10 ^ (3 - length ds) in
     let whole = times_read k (whole_of ds) n e in
-    let are = whole_only ds whole.own_val whole.read in
+    let are = whole_only ds whole.own whole.read in
     record {
       parts = pointed_some ds are.some;
       few = leb-true (length ds) 3 t;
@@ -158,7 +158,7 @@ thousandths_only unit field n m e scaled =
     let rest : List ℕ = drop (length before) field in
     let sum = plus_read (times 1000 (whole_of before)) (fraction_of rest) m e in
     let whole = times_read 1000 (whole_of before) sum.left sum.read_left in
-    let are = whole_only before whole.own_val whole.read in
+    let are = whole_only before whole.own whole.read in
     let part = part_only rest sum.right sum.read_right (up_rest point field) in
     let after : List ℕ = part.0 in
     let split : before ++ rest ≡ field = ap (◌++ rest) (up_take point field) ∙ take-append-drop (length before) field in

@@ -1,5 +1,6 @@
 // A call's files: the site file, a foods block or none, and the rate book, read or refused with the first of their numbers.
 #![tactic(auto)]
+
 ghost use Rattle.std.specs.Prelude.{◌≡◌, [], ◌∷◌};
 ghost use Rattle.numbers.specs.Choice.{first_of, answer_by};
 ghost use Rattle.book.specs.Book.{book_refusal, book_decodes, book_table};

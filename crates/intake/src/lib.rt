@@ -1,5 +1,6 @@
 // What a child takes in a day: the intake of each medium (E-1 to E-11), and refusal 9.
 #![tactic(auto)]
+
 ghost use Rattle.std.specs.Prelude.{◌≡◌};
 ghost use Rattle.exposure.specs.Limits.{ExposureLimits};
 ghost use Rattle.intake.specs.Intake.{air_intake, mixed_water, water_intake, soil_intake, dust_concentration, dust_intake, intakes_of, refusal_of};

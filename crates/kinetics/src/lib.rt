@@ -1,5 +1,6 @@
 // The child's kinetics: one step of the seven compartments.
 #![tactic(auto)]
+
 pub mod divisor; // divisor.rt: the divisors of a month's rates
 pub mod step; // step.rt: one step (B-8, B-9)
 

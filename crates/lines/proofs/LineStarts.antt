@@ -47,10 +47,10 @@ one_more : (m n : ℕ) → suc (m + n) ≡ suc m + n
 one_more m n = omega arith
 
 -- a reader in a row
-abbrev in_rows : Reader → Type 0
-in_rows r = r.headings ≡ 0
+abbrev InRows : Reader → Type 0
+InRows r = r.headings ≡ 0
 
-module _ (k : ℕ) (r : Reader) (in_rows : in_rows r) (b : ℕ) (bs : List ℕ) where
+module _ (k : ℕ) (r : Reader) (in_rows : InRows r) (b : ℕ) (bs : List ℕ) where
   ends_by : (t : Bool) → eqb b line_feed ≡ t → ends r b ≡ t
   unfolding ends
   ends_by t e = rw (in_rows, e)
@@ -59,7 +59,7 @@ module _ (k : ℕ) (r : Reader) (in_rows : in_rows r) (b : ℕ) (bs : List ℕ) 
   unfolding next_of row_start
   fresh_line e = rw (e, in_rows)
 
-  stays_in_rows : eqb b line_feed ≡ false → in_rows (next_of r b)
+  stays_in_rows : eqb b line_feed ≡ false → InRows (next_of r b)
   unfolding next_of
   stays_in_rows e = rw (e, in_rows)
 

@@ -1,6 +1,7 @@
 // The roll of a group: what becomes of up to 64 rows of a card before any file is looked at, kept as words between the reading of the text and
 // the run. Words, since a list of structs cannot be lent.
 #![tactic(auto)]
+
 ghost use Rattle.std.specs.Prelude.{◌≡◌, ◌≤◌, ◌<◌, length};
 ghost use Rattle.card.specs.declared.Value.TheVariants.{Figure};
 ghost use Rattle.card.specs.Row.{read_kept};

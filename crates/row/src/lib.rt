@@ -1,5 +1,6 @@
 // A month's row of the rate book: read from a table of rows, and its limits.
 #![tactic(auto)]
+
 pub mod limits; // limits.rt: the limits of a row
 pub mod places; // places.rt: the places of a row's numbers
 pub mod table; // table.rt: a month's row of a table

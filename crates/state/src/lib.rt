@@ -1,5 +1,6 @@
 // The child's state: the all-zero one, and whether what is handed in is a state that a month can follow. Any 64-bit numbers may stand in it.
 #![tactic(auto)]
+
 ghost use Rattle.std.specs.Prelude.{◌≡◌, min, length, get_or};
 ghost use Rattle.numbers.specs.Sums.{sum_to};
 ghost use Rattle.state.specs.State.{state_refusal, zero_state};

@@ -1,5 +1,6 @@
 // The steps of a month: what each absorbs, and the state that they leave.
 #![tactic(auto)]
+
 use kinetics::State;
 
 pub mod days; // days.rt: a day's steps, and a month's days

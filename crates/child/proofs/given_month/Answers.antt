@@ -1,0 +1,18 @@
+-- `child::given_month` meets its contract: refused by its state, or the month by its exposure.
+use mathlib.Core.Path.{sym, ◌∙◌}
+use borrow.Author.Rules.{rules}
+use Rattle.steps.specs.Steps.{steps_a_day}
+use Rattle.child.proofs.MonthAnswers.{given_refused, given_passed}
+use Rattle.child.proofs.given_month.Goals as goal
+
+pub returns-then-refusal-ne0 : goal.returns-then-refusal-ne0
+returns-then-refusal-ne0 c =
+    let a = c.args in
+    c.refused_month.ensures
+    ∙ given_refused steps_a_day a.state a.exposure a.row a.weight24 c.state_refusal-refusal.result c.state_refusal-refusal.ensures c.if-refusal-ne0.true
+
+pub returns : goal.returns
+returns c =
+    let a = c.args in
+    c.exposed_month.ensures
+    ∙ given_passed steps_a_day a.state a.exposure a.row a.weight24 (sym c.state_refusal-refusal.ensures ∙ c.if-refusal-ne0.false)

@@ -1,0 +1,13 @@
+-- `steps::days::day` meets its contract: at step k the shares from k on are left.
+use Prim.Native.Nat.{◌-◌}
+use native.Mathlib.Omega.{arith}
+use borrow.Author.Rules.{rules}
+use Rattle.steps.specs.Steps.{shares_from, day_shares}
+use Rattle.steps.proofs.Loops.{Ahead, day_start, day_sum_fits, day_refused, day_ready, day_next, day_end}
+use Rattle.steps.proofs.days.day.Given as goal
+
+abbrev pub invariant-loop-k : goal.invariant-loop-k
+invariant-loop-k l = Ahead (λ b. l.rates) l.initial.here (day_shares l.s l.t) l.here (shares_from l.s l.t l.k (l.s - l.k))
+
+abbrev pub decreases-loop-k : goal.decreases-loop-k
+decreases-loop-k l = l.s - l.k

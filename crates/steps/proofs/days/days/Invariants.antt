@@ -1,0 +1,12 @@
+-- `steps::days::days` meets its contract: at day d the days from d on are left.
+use Prim.Native.Nat.{◌-◌}
+use borrow.Author.Rules.{rules}
+use Rattle.steps.specs.Steps.{days_a_month, days_shares}
+use Rattle.steps.proofs.Loops.{Ahead, month_start, day_steppable, month_refused, month_next, month_end_lem}
+use Rattle.steps.proofs.days.days.Given as goal
+
+abbrev pub invariant-loop-d : goal.invariant-loop-d
+invariant-loop-d l = Ahead (λ b. l.rates) l.initial.here (days_shares l.s l.t days_a_month) l.here (days_shares l.s l.t (days_a_month - l.d))
+
+abbrev pub decreases-loop-d : goal.decreases-loop-d
+decreases-loop-d l = days_a_month - l.d
