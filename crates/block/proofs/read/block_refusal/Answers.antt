@@ -11,12 +11,12 @@ pub returns-then-check-right : goal.returns-then-check-right
 returns-then-check-right c = refused_check _ _ c.field_at-check.ensures c.check_of-right.ensures c.if-check-right.true
 
 pub returns-then-its_edition-due : goal.returns-then-its_edition-due
-returns-then-its_edition-due c = 
+returns-then-its_edition-due c =
     refused_edition _ _ c.field_at-check.ensures c.check_of-right.ensures
     c.if-check-right.false c.word_at-its_edition.ensures.0 c.if-its_edition-due.true
 
 pub returns-then-its_number-due : goal.returns-then-its_number-due
-returns-then-its_number-due c = 
+returns-then-its_number-due c =
     refused_number _ _ c.field_at-check.ensures c.check_of-right.ensures
     c.if-check-right.false c.word_at-its_edition.ensures.0 c.if-its_edition-due.false c.word_at-its_number.ensures.0 c.if-its_number-due.true
 

@@ -16,7 +16,7 @@ pub loop-n-init : goal.loop-n-init
 loop-n-init c = summed_none _ _ _ _
 
 pub loop-n-preserved : goal.loop-n-preserved
-loop-n-preserved c = 
+loop-n-preserved c =
     let l = c.loop-n in
     summed_next l.invariant c.loop-n-test.true (ap (λ (w : ℕ). w * (l.n + 1)) c.word_at-word.ensures.0) (part_le (goal.at.loop-n-preserved c).After-word_at-word)
 

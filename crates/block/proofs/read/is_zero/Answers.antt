@@ -14,13 +14,13 @@ unfolding zeros_from
 loop-i-init c = refl
 
 pub returns-then-byte-ne0 : goal.returns-then-byte-ne0
-returns-then-byte-ne0 c = 
+returns-then-byte-ne0 c =
     let l = c.loop-i in
     every_stop _ l.i _ l.invariant c.loop-i-test.true
     (ne_eqb _ 0 (λ e. c.if-byte-ne0.true (c.byte_at-byte.ensures ∙ e)))
 
 pub loop-i-preserved : goal.loop-i-preserved
-loop-i-preserved c = 
+loop-i-preserved c =
     let l = c.loop-i in
     every-next _ l.i _ l.invariant c.loop-i-test.true
     (eq-eqb _ 0 (sym c.byte_at-byte.ensures ∙ c.if-byte-ne0.false))
