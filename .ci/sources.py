@@ -41,7 +41,7 @@ def files(pattern):
 def crates():
     """The crates of crates.txt, in its order."""
     lines = (ROOT / "crates.txt").read_text(encoding="utf-8").splitlines()
-    return [line.split(":")[0] for line in lines if re.match(r"\w+:", line)]
+    return [line.split(":")[0].split()[0] for line in lines if re.match(r"\w+( staticlib)?:", line)]
 
 
 def code(path):
@@ -85,7 +85,7 @@ def contract(lines, function):
     """A public function's signature with its contract, or None: the lines up to the brace that opens its body."""
     head = []
     for line in lines:
-        if head or re.match(r'pub (extern "C" )?fn %s\(' % function, line):
+        if head or re.match(r'pub (extern "C" )?fn %s(<[^(]*>)?\(' % function, line):
             opens_body = line.endswith("{") and not line.startswith(" ")
             head.append(line.rstrip("{ ") if opens_body else line)
             if opens_body:
@@ -93,22 +93,34 @@ def contract(lines, function):
     return None
 
 
+def calls_in(path):
+    """The calls of other crates' functions that a file makes, as `engine::run`."""
+    text = "\n".join(code(path))
+    return {call for call in re.findall(r"(\w+(?:::\w+)+)\(", text) if call.split("::")[0] in crates()}
+
+
+def file_of(call):
+    crate, *modules, _ = call.split("::")
+    return ROOT / "crates" / crate / "src" / ("/".join(modules or ["lib"]) + ".rt")
+
+
 def calls():
     """The open calls, which are those that a program or the C interface makes, and the exported ones: (name, file, signature and
-    contract or None)."""
+    contract or None). An export only hands on to the library's call of its name, whose file is the C interface too."""
     opened, exported = set(), []
     for path in files("crates/*/src/**/*.rt"):
         lines = code(path)
-        text = "\n".join(lines)
-        exports = re.findall(r'^pub extern "C" fn (\w+)', text, re.M)
+        exports = re.findall(r'^pub extern "C" fn (\w+)', "\n".join(lines), re.M)
         exported += [(function, path, contract(lines, function)) for function in exports]
         if exports or path.name == "main.rt":
-            opened |= {call for call in re.findall(r"(\w+(?:::\w+)+)\(", text) if call.split("::")[0] in crates()}
+            opened |= calls_in(path)
+        if exports:
+            for library in {file_of(call) for call in calls_in(path)}:
+                opened |= calls_in(library)
     found = []
     for call in sorted(opened):
-        crate, *modules, function = call.split("::")
-        path = ROOT / "crates" / crate / "src" / ("/".join(modules or ["lib"]) + ".rt")
-        found.append((call, path, contract(code(path), function) if path.exists() else None))
+        path = file_of(call)
+        found.append((call, path, contract(code(path), call.split("::")[-1]) if path.exists() else None))
     return found + exported
 
 

@@ -2,7 +2,7 @@
  * is run by a call of its own. Prints a line a row: its ID, and its blood in ug/dL, or --- if it is skipped, or the refusal. A file
  * that cannot be read counts as empty, and is told. In the repository's root:
  *
- *   rt staticlib jurengate_cards
+ *   ./build jurengate_cards
  *   cc -I include examples/cards.c target/staticlib/libjurengate_cards.a -o target/cards
  *   target/cards samples/survey/site.lkb samples/survey/book.lkb samples/survey/card.txt
  *

@@ -2,7 +2,7 @@
  * own call; then the same by the run in one go. Prints a line per month and a last one with the refusal (0 if none) and the months
  * done; fails if the two differ. In the repository's root:
  *
- *   rt staticlib jurengate
+ *   ./build jurengate
  *   cc -I include examples/firmware.c target/staticlib/libjurengate.a -o target/firmware
  *   target/firmware samples/default/site.lkb samples/default/book.lkb */
 #include <stdint.h>

@@ -2,7 +2,7 @@
  * its own call; then the same by the run in one go. Prints the shares and leadline's lines; fails if the two differ. In the
  * repository's root:
  *
- *   rt staticlib jurengate
+ *   ./build jurengate
  *   cc -I include examples/foods.c target/staticlib/libjurengate.a -o target/foods
  *   target/foods samples/foods/site.lkb samples/foods/foods.lkb samples/foods/book.lkb */
 #include <stdint.h>

@@ -3,7 +3,7 @@
  * skipped, or the refusal; and on standard error, for each group, how many blocks of the book were decoded. A file that cannot be
  * read counts as empty, and is told. In the repository's root:
  *
- *   rt staticlib jurengate_cards
+ *   ./build jurengate_cards
  *   cc -I include examples/group.c target/staticlib/libjurengate_cards.a -o target/group
  *   target/group samples/survey/site.lkb samples/survey/book.lkb samples/survey/card.txt
  *

@@ -27,7 +27,7 @@ fn main() {
         if library.is_file() {
             println!("cargo:rustc-link-lib=static={name}");
         } else {
-            let how = format!("build it with `rt staticlib {name}`, or name its folder in {FOLDER_VARIABLE}");
+            let how = format!("build it with `./build {name}`, or name its folder in {FOLDER_VARIABLE}");
             println!("cargo::error=the engine's library {} is missing: {how}", library.display());
         }
     }

@@ -142,7 +142,7 @@ fn a_missing_library_is_named_with_its_command() {
     };
     let missing = |name: &str| {
         let library = folder.path().join(format!("lib{name}.a"));
-        let how = format!("build it with `rt staticlib {name}`, or");
+        let how = format!("build it with `./build {name}`, or");
         build()
             .contains(&format!("cargo::error=the engine's library {} is missing: {how}", library.display()))
     };

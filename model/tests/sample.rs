@@ -16,8 +16,9 @@ use std::fs;
 use std::os::unix::fs::symlink;
 use std::process::Command;
 
-/// What `rt check` prints if nothing is to prove.
-const PROVED: &str = "rt: numbers proved (unchanged since it was last proved)\nrt: ok, 1 crates proved\n";
+/// What `rt run` says if nothing is to prove.
+const PROVED: &str =
+    "rt: nothing has changed since the last proved build, so nothing is checked now\nrt: running it\n";
 
 /// A copy of the script with what it needs.
 struct Copy {
@@ -35,12 +36,18 @@ impl Copy {
     /// Linked, and not copied: a program that is being written cannot be run.
     fn new(name: &str) -> Copy {
         let folder = Folder::new(name);
-        for part in ["card", "target/bin"] {
+        for part in ["card", "target/bin", "crates/leadline/out", "crates/leadcard/out"] {
             fs::create_dir_all(folder.path().join(part)).expect("a folder");
         }
-        for part in ["sample", "samples", "target/bin/leadline", "target/bin/leadcard"] {
+        let link = |part: &str, to: &str| {
             let original = repository::at(part).canonicalize().unwrap_or_else(|why| panic!("{part}: {why}"));
-            symlink(original, folder.path().join(part)).expect("a link");
+            symlink(original, folder.path().join(to)).expect("a link");
+        };
+        for part in ["sample", "samples", "build", "target/bin/leadline", "target/bin/leadcard"] {
+            link(part, part);
+        }
+        for program in ["leadline", "leadcard"] {
+            link(&format!("target/bin/{program}"), &format!("crates/{program}/out/{program}"));
         }
         let copy = Copy { folder };
         copy.prover(PROVED, 0);
@@ -86,7 +93,7 @@ impl Copy {
         let told = self.run(&["card"]);
         let due = card_printout(&file("site.lkb"), &file("book.lkb"), text.as_bytes());
         assert_eq!(String::from_utf8_lossy(&told.output), String::from_utf8_lossy(&due));
-        assert_eq!(self.asked(), "check leadcard\n");
+        assert_eq!(self.asked(), "run leadcard\n");
         (told.status, told.errors)
     }
 
@@ -111,27 +118,27 @@ fn nothing_is_said_where_nothing_is_to_prove() {
         let told = copy.run(arguments);
         assert_eq!((told.status, told.errors.as_str()), (Some(0), ""));
         assert!(told.output == sample("default/printout.txt"));
-        assert_eq!(copy.asked(), "check leadline\n");
+        assert_eq!(copy.asked(), "run leadline\n");
     }
 }
 
 #[test]
 fn crates_are_shown_as_they_are_proved() {
     let copy = Copy::new("progress");
-    copy.prover("rt: text proved (unchanged since it was last proved)\nfn a: proved\nrt: numbers proved (3 s)\nrt: ok, 2 crates proved\n", 0);
+    copy.prover("rt: text: begins with what a check kept\nfn a: proved\ncrate numbers: modules loaded=57 checked=0\nlogic=proved functions=0\nrt: running it\n", 0);
     let told = copy.run(&[]);
     assert_eq!(told.status, Some(0));
     assert!(told.output == sample("default/printout.txt"));
     let lines: Vec<&str> = told.errors.lines().collect();
     assert_eq!(lines.len(), 2, "{}", told.errors);
     assert!(lines[0].starts_with("sample: proving and building the program leadline"));
-    assert_eq!(lines[1], "rt: numbers proved (3 s)");
+    assert_eq!(lines[1], "sample: numbers is proved");
 }
 
 #[test]
 fn a_program_that_is_not_proved_is_not_run() {
     let copy = Copy::new("not-proved");
-    copy.prover("fn a: this is why\nrt: numbers NOT PROVED (3 s)\n", 1);
+    copy.prover("fn a: this is why\ncrate numbers: modules loaded=57 checked=0\nlogic=not-proved\n", 1);
     let told = copy.run(&[]);
     assert_eq!((told.status, told.output.as_slice()), (Some(1), &b""[..]));
     assert!(
@@ -140,7 +147,7 @@ fn a_program_that_is_not_proved_is_not_run() {
         told.errors
     );
     copy.prover(PROVED, 0);
-    fs::remove_file(copy.folder.path().join("target/bin/leadline")).expect("the link was there");
+    fs::remove_file(copy.folder.path().join("crates/leadline/out/leadline")).expect("the link was there");
     let told = copy.run(&[]);
     assert_eq!((told.status, told.output.as_slice()), (Some(1), &b""[..]));
     assert!(told.errors.contains("leadline is missing"), "{}", told.errors);
@@ -258,7 +265,7 @@ fn are_lines(words: &str, due: &[&str]) -> bool {
 fn a_survey_is_printed_row_by_row() {
     let copy = Copy::new("survey");
     let told = copy.run(&["samples/survey"]);
-    assert_eq!(copy.asked(), "check leadcard\n");
+    assert_eq!(copy.asked(), "run leadcard\n");
     assert_eq!(told.status, Some(3));
     assert!(told.output == sample("survey/cardout.txt"));
     let due = [
@@ -298,12 +305,12 @@ fn a_survey_ends_with_3_only_if_a_row_was_refused() {
 #[test]
 fn a_survey_s_program_that_is_not_proved_is_not_run() {
     let copy = Copy::new("survey-not-proved");
-    copy.prover("rt: lines NOT PROVED (3 s)\n", 1);
+    copy.prover("crate lines: modules loaded=57 checked=0\nlogic=not-proved\n", 1);
     let told = copy.run(&["samples/survey"]);
     assert_eq!((told.status, told.output.as_slice()), (Some(1), &b""[..]));
     assert!(told.errors.contains("the program leadcard was not proved"), "{}", told.errors);
     copy.prover(PROVED, 0);
-    fs::remove_file(copy.folder.path().join("target/bin/leadcard")).expect("the link was there");
+    fs::remove_file(copy.folder.path().join("crates/leadcard/out/leadcard")).expect("the link was there");
     let told = copy.run(&["samples/survey"]);
     assert_eq!((told.status, told.output.as_slice()), (Some(1), &b""[..]));
     assert!(told.errors.contains("leadcard is missing"), "{}", told.errors);

@@ -1,7 +1,7 @@
 // What the programs need of the system beside opening files and printing: reading the start of an input, and telling why they stop.
 #![tactic(auto)]
 
-ghost use Rattle.std.specs.Prelude.{◌≤◌, length, take};
+ghost use Rattle.std.specs.Prelude.{◌≡◌, ◌≤◌, length, take};
 ghost use Rattle.std.specs.Io.KnownBytes.{Consumes};
 
 use std::io;
@@ -10,6 +10,7 @@ use std::io::{Error, Read};
 // Reads until the buffer is full, the input ends or a read fails, and answers how many bytes came.
 pub fn read_full<R: Read>(input: &mut R, buffer: &mut [u8]) -> usize
     ensures bound { result ≤ length buffer.new }
+    ensures same_length { length buffer.new ≡ length buffer.old }
     ensures bytes { Consumes (R.remaining input.old) (R.remaining input.new) (take result buffer.new) }
 {
     let mut done = 0;

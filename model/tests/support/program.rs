@@ -16,7 +16,7 @@ impl Program {
     /// Where the gate leaves the program.
     pub fn built(&self) -> PathBuf {
         let built = repository::at("target/bin").join(self.0).canonicalize();
-        built.unwrap_or_else(|why| panic!("rt check {} has built the program: {why}", self.0))
+        built.unwrap_or_else(|why| panic!("./build {} has built the program: {why}", self.0))
     }
 
     pub fn command(&self) -> Command {

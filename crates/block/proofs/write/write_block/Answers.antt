@@ -13,7 +13,7 @@ returns-then-body-ne-CHECK_AT c =
 pub returns : goal.returns
 returns c =
     let a = c.args in
-    let copied = ap (λ (front : List ℕ). front ++ drop (length a.body.now) a.target.now) (c.copy_from_slice.ensures.after ∙ sym (take-length a.body.now)) in
+    let copied = c.copy.ensures ∙ ap (λ (front : List ℕ). front ++ drop (length a.body.now) a.target.now) (sym (take-length a.body.now)) in
     let whole = stored_written a.body.now a.target.now c.if-body-ne-CHECK_AT.false c.if-target-ne-BLOCK_BYTES.false copied c.check_of-check.ensures c.put_field.ensures in
     record { value = whole.0; target_after = whole.1 }
 
