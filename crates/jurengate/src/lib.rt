@@ -1,5 +1,6 @@
-// The C interface for firmware: include/jurengate.h declares these calls.
+// The calls of the C interface for firmware, which jurengate_c exports and include/jurengate.h declares.
 #![tactic(auto)]
+
 ghost use Rattle.std.specs.Prelude.{◌≡◌, length};
 ghost use Rattle.block.specs.Writer.{writer_refusal, written};
 ghost use Rattle.site.specs.Site.{read_site};
@@ -19,7 +20,7 @@ use kinetics::State;
 use site::places::FIELDS;
 
 // Words of a state.
-const WORDS: usize = 11;
+pub const WORDS: usize = 11;
 
 // A state in words.
 fn words_of(state: State) -> [u64; WORDS]
@@ -56,8 +57,7 @@ fn state_of(words: [u64; WORDS]) -> State
 }
 
 // Reads a site file: its refusal, and its fields, zeros if it is refused.
-#[unsafe(no_mangle)]
-pub extern "C" fn jurengate_read_site(site: &[u8], fields: &mut [u32; FIELDS]) -> u32
+pub fn jurengate_read_site(site: &[u8], fields: &mut [u32; FIELDS]) -> u32
     ensures value { result ≡ (read_site site.now).refusal }
     ensures fields_after { fields.new ≡ (read_site site.now).scenario.fields }
 {
@@ -69,8 +69,7 @@ pub extern "C" fn jurengate_read_site(site: &[u8], fields: &mut [u32; FIELDS]) -
 }
 
 // Reads a rate book: its refusal, and its 85 rows of 23 numbers, zeros if it is refused.
-#[unsafe(no_mangle)]
-pub extern "C" fn jurengate_read_book(book: &[u8], table: &mut [u32; TABLE_NUMBERS]) -> u32
+pub fn jurengate_read_book(book: &[u8], table: &mut [u32; TABLE_NUMBERS]) -> u32
     ensures value { result ≡ book_refusal book.now }
     ensures table_after { table.new ≡ book_table book.now }
 {
@@ -79,8 +78,7 @@ pub extern "C" fn jurengate_read_book(book: &[u8], table: &mut [u32; TABLE_NUMBE
 }
 
 // Reads a foods block: its refusal, and its 128 figures, 105 grams, 15 leads, 4 shares, 4 leads, zeros if it is refused.
-#[unsafe(no_mangle)]
-pub extern "C" fn jurengate_read_foods(foods: &[u8], figures: &mut [u32; FIGURES]) -> u32
+pub fn jurengate_read_foods(foods: &[u8], figures: &mut [u32; FIGURES]) -> u32
     ensures value { result ≡ foods_refusal foods.now }
     ensures figures_after { figures.new ≡ foods_figures foods.now }
 {
@@ -89,8 +87,7 @@ pub extern "C" fn jurengate_read_foods(foods: &[u8], figures: &mut [u32; FIGURES
 }
 
 // Writes a body of 508 bytes with its check into a target of 512.
-#[unsafe(no_mangle)]
-pub extern "C" fn jurengate_write_block(body: &[u8], target: &mut [u8]) -> u32
+pub fn jurengate_write_block(body: &[u8], target: &mut [u8]) -> u32
     ensures value { result ≡ writer_refusal body.now target.old }
     ensures target_after { target.new ≡ written body.now target.old }
 {
@@ -158,8 +155,7 @@ fn run_into(
 }
 
 // Birth: the child at month 0, all zeros if it is refused.
-#[unsafe(no_mangle)]
-pub extern "C" fn jurengate_birth(site: &[u8], book: &[u8], state: &mut [u64; WORDS]) -> u32
+pub fn jurengate_birth(site: &[u8], book: &[u8], state: &mut [u64; WORDS]) -> u32
     ensures value { result ≡ (birth_of (files_of site.now book.now)).refusal }
     ensures state_after { state.new ≡ words_of (birth_of (files_of site.now book.now)).state }
 {
@@ -168,13 +164,7 @@ pub extern "C" fn jurengate_birth(site: &[u8], book: &[u8], state: &mut [u64; WO
 }
 
 // One month: the child a month later and its blood figure; if it is refused, the child as it was and 0.
-#[unsafe(no_mangle)]
-pub extern "C" fn jurengate_month(
-    site: &[u8],
-    book: &[u8],
-    state: &mut [u64; WORDS],
-    blood: &mut u32,
-) -> u32
+pub fn jurengate_month(site: &[u8], book: &[u8], state: &mut [u64; WORDS], blood: &mut u32) -> u32
     ensures value { result ≡ (month_of steps_a_day (state_of state.old) (files_of site.now book.now)).refusal }
     ensures state_after { state.new ≡ words_of (month_of steps_a_day (state_of state.old) (files_of site.now book.now)).state }
     ensures blood_after { blood.new ≡ (month_of steps_a_day (state_of state.old) (files_of site.now book.now)).blood }
@@ -184,8 +174,7 @@ pub extern "C" fn jurengate_month(
 }
 
 // The run: birth and 84 months, the figure of each month done written into the list.
-#[unsafe(no_mangle)]
-pub extern "C" fn jurengate_run(
+pub fn jurengate_run(
     site: &[u8],
     book: &[u8],
     blood: &mut [u32],
@@ -202,8 +191,7 @@ pub extern "C" fn jurengate_run(
 }
 
 // The same three with a foods block, whose diet takes the place of the site file's.
-#[unsafe(no_mangle)]
-pub extern "C" fn jurengate_birth_foods(
+pub fn jurengate_birth_foods(
     site: &[u8],
     foods: &[u8],
     book: &[u8],
@@ -216,8 +204,7 @@ pub extern "C" fn jurengate_birth_foods(
     refusal
 }
 
-#[unsafe(no_mangle)]
-pub extern "C" fn jurengate_month_foods(
+pub fn jurengate_month_foods(
     site: &[u8],
     foods: &[u8],
     book: &[u8],
@@ -232,8 +219,7 @@ pub extern "C" fn jurengate_month_foods(
     refusal
 }
 
-#[unsafe(no_mangle)]
-pub extern "C" fn jurengate_run_foods(
+pub fn jurengate_run_foods(
     site: &[u8],
     foods: &[u8],
     book: &[u8],

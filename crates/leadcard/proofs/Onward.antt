@@ -1,12 +1,7 @@
 -- Reading on with room on the roll uses bytes of its piece, at least one if there is one, and leads on as the piece does.
 -- Assumes nothing.
-use mathlib.Core.Path.{◌≡◌, ◌∙◌}
-use mathlib.Core.List.{List}
-use Prim.Native.Nat.{ℕ, ◌+◌, ◌≤◌, ◌<◌}
-use native.Mathlib.Omega.{arith}
+use Rattle.std.proofs.Common.{◌≡◌, ◌∙◌, ℕ, ◌+◌, ◌≤◌, ◌<◌, List, arith, length, take, drop, length-drop, drop-drop, take_all}
 use borrow.Author.Tests.{lt-leb}
-use lib.ListN.{length, take, drop, length-drop}
-use lib.Seq.{drop-drop, take_all}
 use Rattle.lines.specs.declared.Reader.{Reader}
 use Rattle.lines.specs.Stream.{after}
 use Rattle.lines.specs.Walk.{walk_of}
@@ -30,9 +25,9 @@ module _ (r : Reader) (piece : List ℕ) (n : ℕ) (room : n < rows_a_group) {re
   leads_on = rw walk_is (walked r piece).leads
 
 -- what is left of the piece from place i on, handed on as k bytes, leads where the piece led
-pub still-leads :
+pub still_leads :
     (r : Reader) (piece : List ℕ) (i k n : ℕ) → n < rows_a_group → {read : Enrolled} → read ≡ enrolled r (take k (drop i piece)) n → length piece ≤ i + k
     → after read.reader (drop (i + read.used) piece) ≡ after r (drop i piece)
-still-leads r piece i k n room {read} is all =
+still_leads r piece i k n room {read} is all =
     let rest : take k (drop i piece) ≡ drop i piece = take_all k (drop i piece) (rw length-drop (omega arith)) in
     rw (← drop-drop read.used i piece) (leads_on r (drop i piece) n room (rw rest at is))

@@ -1,22 +1,23 @@
 // Prints the leaflet: least and most of each figure of a site file, from the list that the site check walks, and the two rules beside it.
 #![tactic(auto)]
+
 ghost use Rattle.std.specs.Prelude.{◌≡◌, ◌*◌, ◌≤◌, ◌<◌, length};
 ghost use Rattle.leaflet.specs.Figures.{figures};
 ghost use Rattle.leaflet.specs.Leaflet.{label_bytes};
 ghost use Rattle.leaflet.specs.Internal.{words_most};
 
 use figure::FIGURES;
-use libc::STDOUT_FILENO;
 use page::{LABEL_BYTES, LINE_BYTES};
 use site::limits::{SATURATION_LEAST, SHARES_MOST};
+use std::io;
 
 mod figure; // figure.rt: a figure of a site file, its least and its most
 mod grouped; // grouped.rt: numbers with commas
 mod page; // page.rt: a line of the leaflet
 
-// Prints a line for each figure, in the fields' order, and answers whether all could be written. A label is the figure's name, its ages
-// (0-6 for a field for each, all for one field) and its unit.
-fn print_figures(labels: &[u8]) -> bool
+// Prints a line for each figure, in the fields' order, up to the first that cannot be written, whose error it answers. A label is the figure's
+// name, its ages (0-6 for a field for each, all for one field) and its unit.
+fn print_figures(rt: &impl Print, labels: &[u8]) -> io::Result<()>
     requires { length labels.now ≡ figures * label_bytes }
 {
     let mut figure: usize = 0;
@@ -25,29 +26,26 @@ fn print_figures(labels: &[u8]) -> bool
         let end = start + LABEL_BYTES;
         let mut line = [0u8; LINE_BYTES];
         let bytes = page::put_figure(&labels[start..end], figure, &mut line);
-        if !io::write_all(STDOUT_FILENO, &line[..bytes]) {
-            return false;
-        }
+        rt.write_all(&line[..bytes])?;
         figure = figure + 1;
     }
-    true
+    Ok(())
 }
 
 // Prints a rule: its words, and its number at their end.
-fn print_rule(words: &[u8], number: u64) -> bool
+fn print_rule(rt: &impl Print, words: &[u8], number: u64) -> io::Result<()>
     requires { (number < 1_000_000_000_000) × (length words.now ≤ words_most) }
 {
     let mut line = [0u8; LINE_BYTES];
     let bytes = page::put_rule(words, number, &mut line);
-    io::write_all(STDOUT_FILENO, &line[..bytes])
+    rt.write_all(&line[..bytes])
 }
 
-// Prints the leaflet, up to the first line that cannot be written, and answers whether all could.
-fn print_leaflet() -> bool {
-    io::write_all(
-        STDOUT_FILENO,
-        b"name                ages  unit                  least      most\n",
-    ) && print_figures(
+// Prints the leaflet, up to the first line that cannot be written, whose error it answers.
+fn print_leaflet(rt: &impl Print) -> io::Result<()> {
+    rt.write_all(b"name                ages  unit                  least      most\n")?;
+    print_figures(
+        rt,
         b"\
             air                 0-6   pg/m3                 \
             hours_out           0-6   h/day                 \
@@ -83,14 +81,17 @@ fn print_leaflet() -> bool {
             passive_alternate   all   %                     \
             saturation          all   pg/day                \
             mother              all   thousandths of ug/dL  ",
-    ) && print_rule(
+    )?;
+    print_rule(
+        rt,
         b"\nfirst_draw_share and fountain_share together: at most ",
         SHARES_MOST,
-    ) && print_rule(b"saturation: at least ", SATURATION_LEAST as u64)
+    )?;
+    print_rule(rt, b"saturation: at least ", SATURATION_LEAST as u64)
 }
 
-fn main() {
-    if !print_leaflet() {
-        os::fail(b"leaflet");
+fn main(rt: HostRuntime) {
+    if let Err(why) = print_leaflet(&rt) {
+        console::fail(&rt, "leaflet", why);
     }
 }

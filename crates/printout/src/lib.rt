@@ -1,5 +1,6 @@
 // What leadline prints, a line at a time, from the bytes of its two files. Reading files and writing bytes is left to the program.
 #![tactic(auto)]
+
 ghost use Rattle.std.specs.Prelude.{◌≡◌, ◌++◌, length, drop, get_or};
 ghost use Rattle.files.specs.Files.{files_of};
 ghost use Rattle.printout.specs.Lines.{prepared_of, line_at};
