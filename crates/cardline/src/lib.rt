@@ -1,6 +1,7 @@
 // What leadcard prints, the lines of a group of rows at a time, from the bytes of its files and the rows on a roll. Reading files and writing bytes is
 // left to the program.
 #![tactic(auto)]
+
 ghost use Rattle.std.specs.Prelude.{◌≡◌, ◌++◌, length, drop};
 ghost use Rattle.files.specs.Files.{files_of};
 ghost use Rattle.cardline.specs.Groups.{group_lines, lines_read};

@@ -1,5 +1,6 @@
 // A group of up to 64 rows of a card, run together over one reading of their files: all to a month before any goes on to the next.
 #![tactic(auto)]
+
 ghost use Rattle.std.specs.Prelude.{◌≡◌, List, ℕ, ◌+◌, ◌≤◌, min, max, length};
 ghost use Rattle.site.specs.declared.Scenario.{Scenario};
 ghost use Rattle.book.specs.Book.{table_numbers};

@@ -1,5 +1,6 @@
 // The two gut routes of each month, from files of any length and content: what a day of it takes up passively and actively, in pg.
 #![tactic(auto)]
+
 ghost use Rattle.std.specs.Prelude.{◌≡◌, ◌≤◌, length};
 ghost use Rattle.exposure.specs.Limits.{ExposureLimits};
 ghost use Rattle.row.specs.Row.{last_month};

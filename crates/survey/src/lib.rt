@@ -1,5 +1,6 @@
 // A row of a batch card over a site file, a foods block or none, and a rate book, of any length and content: its answer.
 #![tactic(auto)]
+
 ghost use Rattle.std.specs.Prelude.{◌≡◌, length};
 ghost use Rattle.book.specs.Book.{table_numbers};
 ghost use Rattle.card.specs.Row.{read_kept};

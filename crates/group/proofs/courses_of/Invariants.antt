@@ -1,0 +1,25 @@
+-- `group::courses_of` meets its contract: after the months done each row's course is as it is alone, and in a month the rows take their turns.
+use Prim.Native.Nat.{◌+◌, ◌-◌, ◌≤◌}
+use mathlib.Core.Path.{◌≡◌, refl}
+use native.Mathlib.Omega.{arith}
+use borrow.Author.Rules.{rules}
+use lib.ListN.{length, length-set, length-replicate}
+use Rattle.numbers.proofs.Turns.{AllBy, Turned, turn_start, turn_next, turn_end}
+use Rattle.steps.specs.Steps.{steps_a_day}
+use Rattle.child.specs.declared.Course.{Course}
+use Rattle.roll.specs.Words.{rows_a_group}
+use Rattle.group.specs.Internal.{no_course, GroupMonth}
+use Rattle.group.proofs.GroupCourses.{courses_at, courses_born, courses_ended, ready_decoded, group_month, month_for, row_goes_on}
+use Rattle.group.proofs.courses_of.Given as goal
+
+abbrev pub invariant-loop-i : goal.invariant-loop-i
+invariant-loop-i l = Turned no_course l.count (courses_at steps_a_day l.scenario l.table l.roll l.done) (courses_at steps_a_day l.scenario l.table l.roll (l.done + 1)) l.courses l.i × (length l.courses ≡ rows_a_group) × GroupMonth l.scenario l.table l.done l.exposure l.row l.weight24
+
+abbrev pub decreases-loop-i : goal.decreases-loop-i
+decreases-loop-i l = l.count - l.i
+
+abbrev pub invariant-loop-done : goal.invariant-loop-done
+invariant-loop-done l = AllBy no_course l.count (courses_at steps_a_day l.scenario l.table l.roll l.done) l.courses × (length l.courses ≡ rows_a_group) × (l.done ≤ l.last)
+
+abbrev pub decreases-loop-done : goal.decreases-loop-done
+decreases-loop-done l = l.last - l.done
