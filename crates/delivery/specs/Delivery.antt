@@ -103,7 +103,7 @@ pub record Delivery : Type 0 where
   -- the words of a state and the state of words undo each other
   pub words_of_state : words.WordsLaw
   pub state_of_words : words.StateWordsLaw
-  -- the printout: its digits, its lines with both sums, the bytes that are enough to read, and the lines that document 01 shows
+  -- the printout: its digits, its lines, the bytes that are enough to read, and the lines that document 01 shows
   pub decimals : text.DecimalLaw
   pub printed_lines : printout.LinesLaw
   pub first_bytes : printout.FirstBytesLaw

@@ -4,7 +4,7 @@
 // in pieces, and a row is never held whole: neither has a greatest length. Rows are run in groups of 64, in the text's order.
 #![tactic(auto)]
 
-ghost use Rattle.std.specs.Prelude.{◌≡◌, false, ◌≤◌, ◌<◌, length};
+ghost use Rattle.std.specs.Prelude.{◌≡◌, false, ◌≤◌, ◌<◌, length, take};
 ghost use Rattle.lines.specs.Stream.{after};
 ghost use Rattle.roll.specs.Words.{rows_a_group};
 
@@ -40,7 +40,8 @@ struct Turn {
 
 // Reads what the buffer holds of a file, and answers how many bytes came.
 fn read_file(rt: &impl Files, path: &str, buffer: &mut [u8]) -> usize
-    ensures { result ≤ length buffer.new }
+    ensures bound { result ≤ length buffer.new }
+    ensures prefix { result ≡ length (take result buffer.new) }
 {
     match File::open(rt, path) {
         Ok(mut file) => console::read_full(&mut file, buffer),

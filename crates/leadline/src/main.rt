@@ -2,7 +2,7 @@
 // A file that is missing or cannot be opened counts as empty. If reading fails, what was read until then counts as the file.
 #![tactic(auto)]
 
-ghost use Rattle.std.specs.Prelude.{◌≤◌, length};
+ghost use Rattle.std.specs.Prelude.{◌≡◌, ◌≤◌, length, take};
 
 use printout::{LINE_BYTES, LINES, Prepared};
 use std::fs::File;
@@ -15,7 +15,8 @@ const BOOK_READ: usize = book::BOOK_BYTES + 1;
 
 // Reads what the buffer holds of a file, and answers how many bytes came.
 fn read_file(rt: &impl Files, path: &str, buffer: &mut [u8]) -> usize
-    ensures { result ≤ length buffer.new }
+    ensures bound { result ≤ length buffer.new }
+    ensures prefix { result ≡ length (take result buffer.new) }
 {
     match File::open(rt, path) {
         Ok(mut file) => console::read_full(&mut file, buffer),
