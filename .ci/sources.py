@@ -35,7 +35,8 @@ def name_of(path):
 
 
 def files(pattern):
-    return sorted(ROOT.glob(pattern))
+    """The files of a pattern, without those that rt builds in a crate's out/."""
+    return sorted(path for path in ROOT.glob(pattern) if "out" not in path.relative_to(ROOT).parts)
 
 
 def crates():
