@@ -10,8 +10,8 @@ use Rattle.diet.proofs.BenchDiet as worked
 use Rattle.row.proofs.RowWithin as row
 use Rattle.book.proofs.RowsWithin as book
 use Rattle.book.proofs.ReadBack as book-read
-use Rattle.book.proofs.Decodes as book_decodes_lem
-use Rattle.files.proofs.Decodes as files_decodes_lem
+use Rattle.book.proofs.Decodes as book_decodes
+use Rattle.files.proofs.Decodes as files_decodes
 use Rattle.intake.proofs.Refusal9 as intake
 use Rattle.uptake.proofs.UptakeBounds as uptake
 use Rattle.uptake.proofs.RouteSums as parts
@@ -72,7 +72,7 @@ delivery =
       nine = intake.nine_law;
       nine_of_four = intake.four_alone;
       without_foods = fed.without_foods;
-      with_foods_lem = fed.with_foods_lem;
+      with_foods = fed.with_foods_lem;
       never_20 = demand3.state_law;
       run_is_calls = run.run_law;
       something_accepted = witness.something_accepted;
@@ -96,14 +96,14 @@ delivery =
       blood_figure = figure.blood_law;
       site_right_check = site.right_check;
       site_body = site_read.body_read_back;
-      site_fields_lem = site_read.fields_read_back;
+      site_fields = site_read.fields_read_back;
       foods_right_check = foods.right_check;
-      foods_body_lem = foods_read.body_read_back;
-      foods_figures_lem = foods_read.figures_read_back;
+      foods_body = foods_read.body_read_back;
+      foods_figures = foods_read.figures_read_back;
       book_right_checks = book.right_checks;
       book_body = book-read.body_read_back;
       book_numbers = book-read.numbers_read_back;
-      book_blocks_lem = book.whole_book;
+      book_blocks = book.whole_book;
       book_whole = book-read.book_read_back;
       words_of_state = words.words_law;
       state_of_words = words.state_words_law;
@@ -112,7 +112,7 @@ delivery =
       first_bytes = bytes.first_bytes_law;
       shown_lines = shown.bench;
       text_lines = sense.lines_law;
-      row_fields_lem = sense.fields_law;
+      row_fields = sense.fields_law;
       kept_row = feeding.fed_row;
       kept_answers = answering.answers_law RowRead;
       text_rows = reading.rows_read;
@@ -131,7 +131,7 @@ delivery =
       every_age_puts = put.every_age_puts;
       singly_fits = put.singly_fits;
       singly_puts = put.singly_puts;
-      row_fits_lem = cardsite.row_fits_lem;
+      row_fits = cardsite.row_fits_lem;
       row_exposure_within = cardsite.row_within;
       row_exposures = values.row_exposures;
       row_mother = values.row_mother;
@@ -142,10 +142,10 @@ delivery =
       row_in_run = survey.run_law;
       card_first_bytes = card-bytes.first_bytes_law;
       card_shown = card-lines.bench;
-      refused_block = book_decodes_lem.refused_block;
-      book_decodes_lem = book_decodes_lem.decodes_law;
-      files_decodes_lem = files_decodes_lem.decodes_law;
-      files_ends = files_decodes_lem.ends_law;
+      refused_block = book_decodes.refused_block;
+      book_decodes = book_decodes.decodes_law;
+      files_decodes = files_decodes.decodes_law;
+      files_ends = files_decodes.ends_law;
       something_refused = wiped.something_refused;
       group_decodes = group_decodes.decodes_law;
       card_group_decodes = groups.decodes_law;
@@ -156,7 +156,7 @@ delivery =
       card_group = groups.group_law;
       card_groups = groups.groups_law;
       card_pieces = groups.pieces_law;
-      from_birth_lem = demand3.from_birth_lem;
+      from_birth = demand3.from_birth_lem;
       from_any_state = demand3.demand3;
       solution = margin.solution_law;
       lead = margin.lead_law;

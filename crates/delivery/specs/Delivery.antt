@@ -28,18 +28,18 @@ use Rattle.text.specs.Laws as text
 use Rattle.printout.specs.Laws as printout
 use Rattle.printout.specs.Bench as lines
 use Rattle.lines.specs.Laws as texts
-use Rattle.lines.specs.Bench as workedTexts
+use Rattle.lines.specs.Bench as worked_texts
 use Rattle.figures.specs.Laws as figures
 use Rattle.card.specs.declared.RowRead.{RowRead}
 use Rattle.card.specs.Laws as card
 use Rattle.cardsite.specs.Laws as cardsite
-use Rattle.cardsite.specs.Bench as workedRows
+use Rattle.cardsite.specs.Bench as worked_rows
 use Rattle.roll.specs.Laws as roll
 use Rattle.child.specs.Laws as course
 use Rattle.survey.specs.Laws as survey
 use Rattle.group.specs.Laws as group
 use Rattle.cardline.specs.Laws as cardline
-use Rattle.cardline.specs.Bench as cardLines
+use Rattle.cardline.specs.Bench as card_lines
 
 pub record Delivery : Type 0 where
   -- DEMAND 1. A site file, foods block, rate book or child's state of any length and content is either run or refused with the exact number
@@ -56,7 +56,7 @@ pub record Delivery : Type 0 where
   pub nine_of_four : intake.FourAlone
   -- without a foods block every answer is as it was; with an accepted one only the diet differs, and it is E-5's
   pub without_foods : calls.NoFoodsLaw
-  pub with_foods_lem : calls.FoodsLaw
+  pub with_foods : calls.FoodsLaw
   -- after an accepted birth never 20; a run is birth and month calls, and is never refused with 20 or 21
   pub never_20 : calls.StateLaw
   pub run_is_calls : calls.RunLaws
@@ -91,14 +91,14 @@ pub record Delivery : Type 0 where
   -- a block written from fields within limits reads back as those fields; only a block with the right check is read
   pub site_right_check : site.RightCheck
   pub site_body : site.BodyReadBack
-  pub site_fields_lem : site.FieldsReadBack
+  pub site_fields : site.FieldsReadBack
   pub foods_right_check : foods.RightCheck
-  pub foods_body_lem : foods.BodyReadBack
-  pub foods_figures_lem : foods.FiguresReadBack
+  pub foods_body : foods.BodyReadBack
+  pub foods_figures : foods.FiguresReadBack
   pub book_right_checks : book.RightChecks
   pub book_body : book.BodyReadBack
   pub book_numbers : book.NumbersReadBack
-  pub book_blocks_lem : book.WholeBook
+  pub book_blocks : book.WholeBook
   pub book_whole : book.BookReadBack
   -- the words of a state and the state of words undo each other
   pub words_of_state : words.WordsLaw
@@ -111,13 +111,13 @@ pub record Delivery : Type 0 where
   -- BATCH CARDS. A text of any length gives its rows, and a row its twelve fields; what is kept of a row, read a byte at a time in pieces of any size,
   -- says what the row says
   pub text_lines : texts.LinesLaw
-  pub row_fields_lem : texts.FieldsLaw
+  pub row_fields : texts.FieldsLaw
   pub kept_row : texts.SummaryLaw
   pub kept_answers : texts.AnswersLaw RowRead
   pub text_rows : texts.RowsLaw
   pub text_cuts : texts.CutsLaw
   pub text_walk : texts.WalkLaw
-  pub worked_texts : workedTexts.WorkedTexts
+  pub worked_texts : worked_texts.WorkedTexts
   -- a figure is digits, then at most a point and one to three digits, and nothing else; an asterisk is a gap
   pub figure-written : figures.WrittenLaw
   pub figure-star : figures.StarLaw
@@ -127,14 +127,14 @@ pub record Delivery : Type 0 where
   pub row_read : card.RowReadLaw
   pub text_read : card.TextReadLaw
   pub row_runs : cardsite.RunsWithin
-  pub worked_rows : workedRows.Bench
+  pub worked_rows : worked_rows.Bench
   -- a figure put over a site file's fields, at every age or singly, stands there, keeps the others, and keeps them within limits
   pub every_age_fits : site.EveryAgeFits
   pub every_age_puts : site.EveryAgePuts
   pub singly_fits : site.SinglyFits
   pub singly_puts : site.SinglyPuts
   -- so a row's scenario is within limits; it has the row's figures at every age, the site file's own at a gap, and both modes 0
-  pub row_fits_lem : cardsite.RowFits
+  pub row_fits : cardsite.RowFits
   pub row_exposure_within : cardsite.RowWithin
   pub row_exposures : cardsite.RowExposures
   pub row_mother : cardsite.RowMother
@@ -147,12 +147,12 @@ pub record Delivery : Type 0 where
   pub row_in_run : survey.RunLaw
   -- the printout of a card; the bytes that are enough to read; lines and texts that the request shows
   pub card_first_bytes : cardline.FirstBytesLaw
-  pub card_shown : cardLines.Bench
+  pub card_shown : card_lines.Bench
   -- GROUPS. Sixty-four rows need one reading of their book. A block of it is decoded exactly 17 times if the book is accepted, n + 1 times if its block n
   -- is refused, and never on a refusal before its blocks; every reading ends in one of these ways, and some at each block; a group carries its files' count, whatever its rows are
   pub refused_block : book.RefusedBlock
-  pub book_decodes_lem : book.DecodesLaw
-  pub files_decodes_lem : files.DecodesLaw
+  pub book_decodes : book.DecodesLaw
+  pub files_decodes : files.DecodesLaw
   pub files_ends : files.EndsLaw
   pub something_refused : witness.SomethingRefused
   pub group_decodes : group.DecodesLaw
@@ -169,7 +169,7 @@ pub record Delivery : Type 0 where
   pub card_pieces : cardline.PiecesLaw
   -- DEMAND 3. Over any list of month calls, refused ones among them: lead balances to the picogram between any two month ends, each ledger grows
   -- by its own exits, and after every step plasma lies within the stated margin of the exact backward Euler solution
-  pub from_birth_lem : conservation.FromBirth
+  pub from_birth : conservation.FromBirth
   pub from_any_state : conservation.Demand3
   -- the exact solution is a fraction; a step loses and makes no lead, and keeps its margin
   pub solution : margin.SolutionLaws

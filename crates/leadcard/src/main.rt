@@ -121,7 +121,7 @@ fn read_piece<R: Print + Eprint + Alloc>(
     count: usize,
 ) -> Turn
     requires { count < rows_a_group }
-    ensures count_lt_rows_agroup { result.count < rows_a_group }
+    ensures room { result.count < rows_a_group }
     ensures reader_value { result.failed ≡ false → result.reader ≡ after reader piece.now }
 {
     let mut here = reader;
