@@ -11,7 +11,7 @@ use borrow.Author.Tests.{eq-eqb, ne_eqb}
 use Rattle.numbers.specs.Choice.{unless, first_of}
 use Rattle.numbers.proofs.Every.{length-tab}
 use Rattle.numbers.proofs.Refusals.{or_else_first, answer_refused}
-use Rattle.block.specs.Block.{block_bytes, fields_at, block_refusal, words_from, fields_from}
+use Rattle.block.specs.Block.{block_bytes, fields_at, block_refusal, words_from, fields_from, numbers_from}
 use Rattle.block.proofs.BlockRefusals.{word_from, field_from}
 use Rattle.foods.specs.Names.{amount_count, wide_count, figure_count}
 use Rattle.foods.specs.Figures.{shares_fit, amounts_fit}
@@ -26,11 +26,11 @@ abbrev pub stored : List ℕ → List ℕ → List ℕ → List ℕ
 stored words fields f = take amount_count (begun words f) ++ (fields ++ drop wide_count (drop amount_count (begun words f)))
 
 length_words_from : (from n : ℕ) (block : List ℕ) → length (words_from from n block) ≡ n
-unfolding words_from
+unfolding numbers_from
 length_words_from from n block = length-tab n (word_from from block)
 
 length_fields_from : (from n : ℕ) (block : List ℕ) → length (fields_from from n block) ≡ n
-unfolding fields_from
+unfolding numbers_from
 length_fields_from from n block = length-tab n (field_from from block)
 
 length-figures : (block : List ℕ) → length (figures_of block) ≡ figure_count

@@ -12,7 +12,7 @@ use borrow.Author.Tests.{leb-true}
 use Rattle.numbers.specs.Choice.{every}
 use Rattle.numbers.proofs.Every.{and_left, and_right, every-at, length-tab}
 use Rattle.numbers.proofs.Refusals.{first_of_none, unless_none, answer_number, OfInput, unless_of_input, first_of_of_input}
-use Rattle.block.specs.Block.{fields_from}
+use Rattle.block.specs.Block.{fields_from, numbers_from}
 use Rattle.block.proofs.BlockRefusals.{block_of_input}
 use Rattle.block.proofs.Sealed.{accepted_check}
 use Rattle.site.specs.declared.Scenario.{Scenario}
@@ -72,7 +72,7 @@ module _ (site : List ℕ) (passed : site_refusal site ≡ 0) where
   accepted_fit = ap (λ (s : Scenario). fields_fit s.fields) accepted_scenario ∙ fields_passed
 
   pub accepted_fits : Fits (read_site site).scenario.fields
-  unfolding scenario_of fields_from
+  unfolding scenario_of numbers_from
   accepted_fits = record { long = ap (λ (s : Scenario). length s.fields) accepted_scenario ∙ length-tab field_count _; fit = accepted_fit }
 
 pub mother_accepted : MotherWithin

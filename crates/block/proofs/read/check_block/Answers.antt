@@ -1,8 +1,8 @@
--- `block::read::block_refusal` meets its contract: each way out is one case of `block_refusal`.
+-- `block::read::check_block` meets its contract: each way out is one case of `block_refusal`.
 use mathlib.Core.Path.{sym, ◌∙◌}
 use Rattle.numbers.specs.Choice.{unless}
 use Rattle.block.proofs.BlockRefusals.{refused_check, refused_edition, refused_number, refused_reserved}
-use Rattle.block.proofs.read.block_refusal.Goals as goal
+use Rattle.block.proofs.read.check_block.Goals as goal
 
 pub returns-then-check-right : goal.returns-then-check-right
 returns-then-check-right c = refused_check _ _ c.field_at-check.ensures c.check_of-right.ensures c.if-check-right.true
