@@ -6,7 +6,7 @@ use mathlib.Core.List.{List, [], ◌∷◌}
 use Prim.Native.Nat.{ℕ}
 use Rattle.numbers.specs.Choice.{first_of, answer_by}
 use Rattle.numbers.proofs.Refusals.{first_of_none}
-use Rattle.site.specs.declared.SiteRead.{SiteRead}
+use Rattle.site.specs.SiteRead.{SiteRead}
 use Rattle.site.specs.Scenario.{with_diets}
 use Rattle.site.specs.Site.{site_refusal, read_site}
 use Rattle.site.proofs.FieldsWithin.{read_refusal}

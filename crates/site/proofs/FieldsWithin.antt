@@ -12,11 +12,11 @@ use borrow.Author.Tests.{leb-true}
 use Rattle.numbers.specs.Choice.{every}
 use Rattle.numbers.proofs.Every.{and_left, and_right, every-at, length-tab}
 use Rattle.numbers.proofs.Refusals.{first_of_none, unless_none, answer_number, OfInput, unless_of_input, first_of_of_input}
-use Rattle.block.specs.Block.{fields_from, numbers_from}
+use Rattle.block.specs.Block.{numbers_from}
 use Rattle.block.proofs.BlockRefusals.{block_of_input}
 use Rattle.block.proofs.Sealed.{accepted_check}
 use Rattle.site.specs.declared.Scenario.{Scenario}
-use Rattle.site.specs.declared.SiteRead.{SiteRead}
+use Rattle.site.specs.SiteRead.{SiteRead}
 use Rattle.site.specs.Fields.{field_count, singles_at, mother_at, at, limits, first_draw_share_in, fountain_share_in, saturation_in, within_limits, saturation_fits, shares_fit, fields_fit}
 use Rattle.site.specs.Scenario.{scenario_of}
 use Rattle.site.specs.Site.{site_form, site_fields, site_refusals, site_refusal, read_as, refused_with, read_site}
