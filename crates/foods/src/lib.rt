@@ -39,10 +39,12 @@ pub fn read_foods(block: &[u8]) -> Result<FoodsFigures, Refusal>
     let mut figures = [0u32; FIGURES];
     block::read::read_numbers::<Words>(block, FIELDS_AT, &mut figures[..AMOUNTS]);
     block::read::read_numbers::<Fields>(block, LEADS_AT, &mut figures[AMOUNTS..FIGURES]);
-    if !limits::shares_fit(&figures) {
+    let shares = limits::shares_fit(&figures);
+    let amounts = limits::amounts_fit(&figures);
+    if !shares {
         return Err(Refusal::SharesOver);
     }
-    if !limits::amounts_fit(&figures) {
+    if !amounts {
         return Err(Refusal::AmountOver);
     }
     Ok(FoodsFigures { figures })
