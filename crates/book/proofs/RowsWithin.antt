@@ -9,7 +9,7 @@ use native.Mathlib.Omega.{arith}
 use lib.ListN.{get_or}
 use Rattle.numbers.proofs.Every.{every-at, get_or-tab}
 use Rattle.numbers.proofs.Refusals.{or_else_none, first_of_none, unless_none, OfInput, unless_of_input, or_else_of_input, first_of_of_input}
-use Rattle.block.specs.Block.{fields_from, block_at, numbers_from}
+use Rattle.block.specs.Block.{block_at, numbers_from}
 use Rattle.block.proofs.BlockRefusals.{field, block_of_input}
 use Rattle.block.proofs.Sealed.{accepted_check}
 use Rattle.row.specs.Row.{rows_a_block, row_of, row_fits, rows_fit}

@@ -12,7 +12,7 @@ use Rattle.site.specs.Site.{site_refusal, read_site}
 use Rattle.site.proofs.FieldsWithin.{read_refusal}
 use Rattle.foods.specs.Foods.{foods_refusal, foods_figures}
 use Rattle.diet.specs.Diet.{diets_of}
-use Rattle.book.specs.declared.BookRead.{BookRead}
+use Rattle.book.specs.BookRead.{BookRead}
 use Rattle.book.specs.Book.{book_refusal, book_decodes, book_table}
 use Rattle.files.specs.declared.DietsRead.{DietsRead}
 use Rattle.files.specs.Files.{foods_if, Files, length_refusal, before_book_refusal, files_refusal, files_decodes, with_foods}
