@@ -92,7 +92,7 @@ pub fn read_book(
     }
     let decoded = decode_blocks(book, table, decodes);
     if decoded.is_err() {
-        table.fill(0);
+        table.fill(0); // the blocks before the refused one left their numbers
     }
     decoded
 }

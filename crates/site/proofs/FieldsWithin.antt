@@ -82,6 +82,14 @@ mother_accepted site passed = field_le (read_site site).scenario.fields (accepte
 pub right_check : RightCheck
 right_check site passed = accepted_check site site_form (none site passed 1)
 
+-- what an answer of the reader says of the refusal
+pub site_refused : (site : List ℕ) (r : ℕ) → refused_with r ≡ read_site site → r ≡ site_refusal site
+unfolding refused_with
+site_refused site r e = ap (λ (x : SiteRead). x.refusal) e ∙ read_refusal site
+
+pub site_accepted : (site : List ℕ) (s : Scenario) → ◌≡◌ {A = SiteRead} (record { refusal = 0; scenario = s }) (read_site site) → 0 ≡ site_refusal site
+site_accepted site s e = ap (λ (x : SiteRead). x.refusal) e ∙ read_refusal site
+
 -- a site file's refusals are from the input
 pub site_of_input : (site : List ℕ) → OfInput (site_refusal site)
 unfolding site_refusal

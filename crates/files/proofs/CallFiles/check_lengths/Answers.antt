@@ -1,9 +1,9 @@
--- `files::length_refusal` meets its contract: each return is one case of the two lengths.
+-- `files::CallFiles::check_lengths` meets its contract: each return is one case of the two lengths.
 use borrow.Author.Tests.{eq-eqb, ne_eqb}
 use Rattle.numbers.specs.Choice.{unless}
 use Rattle.block.specs.Block.{block_bytes}
 use Rattle.book.specs.Book.{book_bytes}
-use Rattle.files.proofs.length_refusal.Goals as goal
+use Rattle.files.proofs.CallFiles.check_lengths.Goals as goal
 
 pub returns-then-site-ne-SITE_BYTES : goal.returns-then-site-ne-SITE_BYTES
 unfolding unless
