@@ -1,6 +1,6 @@
 -- What reading a call's files answers, in the order of its refusals: a length, the site file, the foods block, the book.
 -- Assumes nothing.
-use mathlib.Core.Path.{◌≡◌, sym, ◌∙◌}
+use mathlib.Core.Path.{◌≡◌, subst, sym, ◌∙◌}
 use Rattle.std.proofs.Common.{Ok, Err}
 use mathlib.Core.List.{List, [], ◌∷◌}
 use Prim.Native.Nat.{ℕ}
@@ -13,6 +13,7 @@ use Rattle.site.specs.declared.Scenario.{Scenario}
 use Rattle.site.specs.Site.{site_refusal}
 use Rattle.book.specs.Book.{book_refusal, book_decodes}
 use Rattle.files.specs.Files.{Files, foods_refusal_in, length_refusal, before_book_refusal, files_refusal, files_decodes, scenario_in, table_in}
+use Rattle.files.specs.FilesRead.{FilesRead}
 use Rattle.files.specs.Internal.{read_with, FilesAreRead}
 
 -- the first refusal of two that is one
@@ -69,3 +70,7 @@ module _ (f : Files) where
             scenario = λ z. scenario;
             table_is = λ z. read;
           }
+
+-- the reading of the same files
+pub read_same : {f g : Files} {table : List ℕ} {x : FilesRead} → f ≡ g → FilesAreRead f table x → FilesAreRead g table x
+read_same {f} {g} {table} {x} e read = subst (λ (h : Files). FilesAreRead h table x) e read

@@ -5,7 +5,7 @@ ghost use Rattle.std.specs.Prelude.{◌≡◌, [], ◌∷◌, IfOk};
 ghost use Rattle.numbers.specs.Choice.{first_of};
 ghost use Rattle.refusal.specs.Refusal.{number_in};
 ghost use Rattle.site.specs.Site.{site_refusal};
-ghost use Rattle.files.specs.Files.{foods_refusal_in, length_refusal, scenario_in};
+ghost use Rattle.files.specs.Files.{foods_refusal_in, files_if, length_refusal, scenario_in};
 ghost use Rattle.files.specs.CallFiles.{files_in};
 ghost use Rattle.files.specs.Internal.{read_with, FilesAreRead};
 
@@ -19,6 +19,19 @@ pub struct CallFiles<'a> {
     pub site: &'a [u8],
     pub foods: Option<&'a [u8]>,
     pub book: &'a [u8],
+}
+
+// The files of a call that has a foods block if `has_foods` says so.
+pub fn call_files<'a>(
+    site: &'a [u8],
+    has_foods: bool,
+    foods: &'a [u8],
+    book: &'a [u8],
+) -> CallFiles<'a>
+    ensures { files_in result ≡ files_if has_foods site.now foods.now book.now }
+{
+    let foods = if has_foods { Some(foods) } else { None };
+    CallFiles { site, foods, book }
 }
 
 impl CallFiles<'_> {
