@@ -12,10 +12,10 @@ use lib.Seq.{get_or-append-add, take_at, length-take-le, take_all}
 use Rattle.numbers.specs.Choice.{unless, answer_by, tab}
 use Rattle.numbers.proofs.Every.{every_shift, tab_same, tab-append, length-tab}
 use Rattle.numbers.proofs.Refusals.{or_else_first, or_else-last, answer_refused}
-use Rattle.block.specs.Block.{block_bytes, block_refusal, fields_from, fields_of, block_at}
+use Rattle.block.specs.Block.{block_bytes, block_refusal, fields_of, block_at, numbers_from}
 use Rattle.block.proofs.BlockRefusals.{field}
 use Rattle.row.specs.Row.{numbers_a_row, rows_a_block, row_numbers, row_from, row_of, row_fits, rows_fit}
-use Rattle.book.specs.declared.BookRead.{BookRead}
+use Rattle.book.specs.BookRead.{BookRead}
 use Rattle.book.specs.Book.{book_blocks, numbers_a_block, table_numbers, book_form, block_numbers, book_block_refusal, blocks_refusal, blocks_decoded, book_number, numbers_of}
 use Rattle.numbers.specs.Parts.{placed}
 use Rattle.numbers.proofs.Parts.{placed_lent, placed_long}
@@ -30,7 +30,7 @@ lent_block book n =
     rw e
 
 length_numbers : (block : List ℕ) → length (block_numbers block) ≡ numbers_a_block
-unfolding fields_from
+unfolding numbers_from
 length_numbers block = length-tab numbers_a_block (field block)
 
 -- number j of block n in the book
@@ -171,7 +171,7 @@ module _ (book table : List ℕ) where
           }
 
       numbers_next : tab numbers_a_block (λ (j : ℕ). book_number book (numbers_a_block * n + j)) ≡ block_numbers (block_at book n)
-      unfolding fields_from
+      unfolding numbers_from
       numbers_next =
           tab_same numbers_a_block (λ (j : ℕ). book_number book (numbers_a_block * n + j)) (field (block_at book n)) (number_in_block book n)
 

@@ -8,7 +8,7 @@ use lib.ListN.{length, replicate}
 use borrow.Author.Tests.{ne_eqb}
 use Rattle.numbers.proofs.Refusals.{answer_refused}
 use Rattle.numbers.specs.Choice.{unless}
-use Rattle.book.specs.declared.BookRead.{BookRead}
+use Rattle.book.specs.BookRead.{BookRead}
 use Rattle.book.specs.Book.{book_bytes, table_numbers, book_refusal, book_decodes, numbers_of, blank_table, book_table}
 use Rattle.book.specs.Internal.{BookDecoded}
 use Rattle.book.proofs.Decodes.{decodes_of_blocks, refusal_of_blocks}

@@ -9,7 +9,7 @@ use native.Mathlib.Omega.{arith}
 use lib.ListN.{get_or}
 use Rattle.numbers.proofs.Every.{every-at, get_or-tab}
 use Rattle.numbers.proofs.Refusals.{or_else_none, first_of_none, unless_none, OfInput, unless_of_input, or_else_of_input, first_of_of_input}
-use Rattle.block.specs.Block.{fields_from, block_at}
+use Rattle.block.specs.Block.{block_at, numbers_from}
 use Rattle.block.proofs.BlockRefusals.{field, block_of_input}
 use Rattle.block.proofs.Sealed.{accepted_check}
 use Rattle.row.specs.Row.{rows_a_block, row_of, row_fits, rows_fit}
@@ -44,7 +44,7 @@ whole_book book long h = refusal_of_blocks book long ∙ blocks_none book 0 book
 
 -- the numbers of block n in the book's table
 pub number_read : (book : List ℕ) (n j : ℕ) → n < book_blocks → j < numbers_a_block → get_or (numbers_of book) (numbers_a_block * n + j) 0 ≡ get_or (block_numbers (block_at book n)) j 0
-unfolding numbers_of fields_from
+unfolding numbers_of numbers_from
 number_read book n j hn hj =
     get_or-tab table_numbers (book_number book) (numbers_a_block * n + j) (omega arith) ∙ number_in_block book n j hj ∙ sym (get_or-tab numbers_a_block (field (block_at book n)) j hj)
 

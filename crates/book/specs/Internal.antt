@@ -3,7 +3,7 @@
 use Rattle.std.specs.Prelude.{ℕ, ◌≡◌, List, length}
 use Rattle.numbers.specs.Parts.{placed}
 use Rattle.block.specs.Block.{block_at}
-use Rattle.book.specs.declared.BookRead.{BookRead}
+use Rattle.book.specs.BookRead.{BookRead}
 use Rattle.book.specs.Book.{book_blocks, numbers_a_block, table_numbers, block_numbers, book_block_refusal, blocks_refusal, blocks_decoded, numbers_of}
 
 -- what decoding block n into a table, as its part of 115 numbers, leaves, and what decoding all blocks leaves

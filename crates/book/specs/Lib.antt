@@ -1,3 +1,4 @@
 pub mod Book
 pub mod Laws
+pub mod BookRead
 pub mod Internal

@@ -18,7 +18,7 @@ use Rattle.block.specs.Writer.{written, body_of}
 use Rattle.block.proofs.Laid.{body_passes}
 use Rattle.block.proofs.Sealed.{length-sealed, written-sealed}
 use Rattle.site.specs.declared.Scenario.{Scenario}
-use Rattle.site.specs.declared.SiteRead.{SiteRead}
+use Rattle.site.specs.SiteRead.{SiteRead}
 use Rattle.site.specs.Fields.{ages, field_count, limits, within_limits, fields_fit}
 use Rattle.site.specs.Scenario.{scenario_of, with_diets, mother_of}
 use Rattle.site.specs.Site.{site_form, site_refusal, read_as, read_site}

@@ -1,12 +1,16 @@
 -- The terms of the diet with their bounds, by what the code computes them from.
 -- Assumes nothing.
-use mathlib.Core.Path.{◌≡◌, refl, ap, ap₂}
+use mathlib.Core.Path.{◌≡◌, refl, sym, ap, ap₂}
 use mathlib.Core.Bool.{true}
-use mathlib.Core.List.{List}
+use mathlib.Core.List.{List, [], ◌∷◌}
 use Prim.Native.Nat.{ℕ, ◌+◌, ◌-◌, ◌*◌, ◌/◌, ◌<◌}
 use native.Mathlib.Nat.{mul-le-mul}
 use native.Mathlib.Omega.{arith}
 use lib.ListN.{get_or}
+use Rattle.std.proofs.lemmas.List.{get_or-map}
+use Rattle.foods.specs.declared.places.Food.{Food}
+use Rattle.foods.specs.declared.places.Food.TheVariants.{Dairy, Juices, Nuts, Bread, Pasta, Beverage, Candy, Sauce, Formula, Infant}
+use Rattle.foods.specs.Places.{place_of}
 use lib.Dec.{ltb}
 use borrow.Author.Tests.{ltb-true}
 use Rattle.numbers.specs.Bounds.{Is}
@@ -71,6 +75,13 @@ module _ (f : List ℕ) (age : ℕ) where
   pub whole_sum : sum_to whole_count whole_at ≡ in_whole_foods f age
   unfolding sum_to whole_at in_whole_foods
   whole_sum = omega arith
+
+-- the code's list of them has their places
+abbrev pub its_foods : List Food
+its_foods = Dairy ∷ Juices ∷ Nuts ∷ Bread ∷ Pasta ∷ Beverage ∷ Candy ∷ Sauce ∷ Formula ∷ Infant ∷ []
+
+pub whole_place : (i : ℕ) (d : Food) → i < whole_count → place_of (get_or its_foods i d) ≡ get_or whole_foods i 0
+whole_place i d h = sym (get_or-map place_of its_foods i d 0 h)
 
 -- each of them is a food
 pub whole_below : (i : ℕ) → i < whole_count → get_or whole_foods i 0 < food_count

@@ -10,6 +10,7 @@ use Rattle.numbers.specs.Choice.{unless, or_else, first_of}
 use Rattle.numbers.proofs.Refusals.{or_else_first, or_else-last, first_of_none, first_of-last, unless_none, answer_refused}
 use Rattle.row.specs.Row.{last_month, row_of}
 use Rattle.book.specs.Book.{table_numbers}
+use Rattle.site.specs.declared.Scenario.{Scenario}
 use Rattle.kinetics.specs.declared.State.{State}
 use Rattle.state.specs.State.{zero_state}
 use Rattle.child.specs.declared.BirthAnswer.{BirthAnswer}
@@ -21,7 +22,7 @@ use Rattle.child.specs.Internal.{Decoded, child_run}
 use Rattle.child.proofs.MonthAnswers.{refused_answer, refused_birth_lem, birth_answer_refusal}
 use Rattle.child.proofs.RunLoop.{Done, months_agree}
 use Rattle.files.specs.Files.{Files, length_refusal, before_book_refusal, files_refusal, scenario_in, table_in}
-use Rattle.files.specs.declared.FilesRead.{FilesRead}
+use Rattle.files.specs.FilesRead.{FilesRead}
 use Rattle.files.specs.Internal.{FilesAreRead}
 use Rattle.engine.specs.declared.RunStart.{RunStart}
 use Rattle.engine.specs.Birth.{birth_refusals, birth_refusal, birth_of}
@@ -58,13 +59,16 @@ module _ (f : Files) (places : ℕ) (table : List ℕ) {lengths : ℕ} (el : len
       (first_of-last (take 2 (start_refusals f places)) (files_refusal f) (drop 1 (birth_refusals f))
       ∙ ap (or_else (first_of (head_refusals (length_refusal f) places (files_refusal f)))) (or_else-last (newborn_refusal (scenario_in f) (table_in f))))
 
-  pub start_refused : (head ≡ 0 → ⊥) → (a : State) → a ≡ zero_state → Started f places table (record { refusal = head; scenario = y.scenario; state = a })
-  start_refused h a ea =
+  pub start_refused : (head ≡ 0 → ⊥) → (any : Scenario) (a : State) → a ≡ zero_state → Started f places table (record { refusal = head; scenario = any; state = a })
+  start_refused h any a ea =
       record {
         birth = rw (ea, start_by_head, or_else_first head (newborn_refusal (scenario_in f) (table_in f)) h) (refused_birth_lem head _ h);
         scenario = λ z. absurd (h z);
         table_is = λ z. absurd (h z);
       }
+
+  pub refused_head : (y.refusal ≡ 0 → ⊥) → head ≡ 0 → ⊥
+  refused_head h z = h (first_of_none (head_refusals lengths places y.refusal) (sym eh ∙ z) 2)
 
   module _ (passed : head ≡ 0) where
     pub read_passed : y.refusal ≡ 0

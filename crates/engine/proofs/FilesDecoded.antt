@@ -12,7 +12,7 @@ use Rattle.exposure.proofs.ExposureWithin.{exposure_within}
 use Rattle.book.specs.Book.{table_numbers, book_refusal, numbers_of, blank_table, book_table}
 use Rattle.book.proofs.RowsWithin.{rows_within}
 use Rattle.files.specs.Files.{Files, files_refusal, scenario_in, table_in}
-use Rattle.files.specs.declared.FilesRead.{FilesRead}
+use Rattle.files.specs.FilesRead.{FilesRead}
 use Rattle.files.specs.Internal.{FilesAreRead}
 use Rattle.files.proofs.FilesPassed.{site_passed, book_passed}
 use Rattle.child.specs.Internal.{Decoded}

@@ -17,6 +17,7 @@ use child::months::MONTHS;
 use child::{BirthAnswer, MonthAnswer, RunAnswer};
 use kinetics::State;
 use site::Scenario;
+use site::places::FIELDS;
 
 // Blood list not 84 long.
 const WRONG_LIST_LENGTH: u32 = 2;
@@ -54,26 +55,38 @@ fn start(
 ) -> RunStart
     ensures { Started (files_if has_foods site.now foods.now book.now) places table.new result }
 {
-    let lengths = files::length_refusal(site, book);
-    let read = files::read_files(site, has_foods, foods, book, table);
-    let scenario = read.scenario;
-    let of_files = read.refusal;
-    let refusal = head_refusal(lengths, places, of_files);
-    if refusal != 0 {
-        let state = state::zero_state();
-        return RunStart {
-            refusal,
-            scenario,
-            state,
-        };
-    }
-    let birth = child::born(scenario, table);
-    let over = birth.refusal;
-    let state = birth.state;
-    RunStart {
-        refusal: over,
-        scenario,
-        state,
+    let call = files::call_files(site, has_foods, foods, book);
+    let lengths = refusal::number_in(&call.check_lengths());
+    let mut decodes = 0;
+    match call.read(table, &mut decodes) {
+        Ok(scenario) => {
+            let refusal = head_refusal(lengths, places, 0);
+            if refusal != 0 {
+                let state = state::zero_state();
+                return RunStart {
+                    refusal,
+                    scenario,
+                    state,
+                };
+            }
+            let birth = child::born(scenario, table);
+            let over = birth.refusal;
+            let state = birth.state;
+            RunStart {
+                refusal: over,
+                scenario,
+                state,
+            }
+        }
+        Err(of_files) => {
+            let refusal = head_refusal(lengths, places, of_files.number());
+            let state = state::zero_state();
+            RunStart {
+                refusal,
+                scenario: site::scenario_of([0; FIELDS]),
+                state,
+            }
+        }
     }
 }
 
@@ -93,13 +106,12 @@ pub fn month(state: State, site: &[u8], has_foods: bool, foods: &[u8], book: &[u
     ensures { result ≡ month_of steps_a_day state (files_if has_foods site.now foods.now book.now) }
 {
     let mut table = [0u32; TABLE_NUMBERS];
-    let read = files::read_files(site, has_foods, foods, book, &mut table);
-    let refusal = read.refusal;
-    if refusal != 0 {
-        return child::refused_month(refusal, state);
+    let mut decodes = 0;
+    let call = files::call_files(site, has_foods, foods, book);
+    match call.read(&mut table, &mut decodes) {
+        Ok(scenario) => child::child_month(state, scenario, &table),
+        Err(refusal) => child::refused_month(refusal.number(), state),
     }
-    let scenario = read.scenario;
-    child::child_month(state, scenario, &table)
 }
 
 // A run that is refused before its first month.

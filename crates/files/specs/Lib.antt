@@ -1,3 +1,5 @@
 pub mod Files
+pub mod CallFiles
+pub mod FilesRead
 pub mod Laws
 pub mod Internal

@@ -1,13 +1,15 @@
 -- Laws of the figures' limits: the tests in their order, and what they say of each figure.
 -- Assumes nothing.
-use mathlib.Core.Path.{◌≡◌, refl, sym, ◌∙◌}
-use mathlib.Core.Bool.{Bool, true, false, ◌&&◌}
+use mathlib.Core.Path.{◌≡◌, refl, ap}
+use mathlib.Core.Bool.{Bool, true, ◌&&◌}
 use mathlib.Core.List.{List}
-use Prim.Native.Nat.{ℕ, zero, suc, ◌+◌, ◌*◌, ◌-◌, ◌≤◌, ◌<◌}
+use Prim.Native.Nat.{ℕ, zero, suc, ◌+◌, ◌*◌, ◌≤◌, ◌<◌}
 use native.Mathlib.Omega.{arith}
-use lib.ListN.{get_or}
+use lib.ListN.{length, get_or, take, drop}
+use lib.Seq.{drop-cons}
+use Rattle.std.specs.List.{list_all}
 use lib.Dec.{leb}
-use borrow.Author.Tests.{leb-true, le-leb, lt-leb}
+use borrow.Author.Tests.{leb-true}
 use Rattle.numbers.specs.Choice.{every}
 use Rattle.numbers.proofs.Every.{and_left, and_right, every-at}
 use Rattle.foods.specs.Names.{food_count, amount_count, local_count, vegetable, fruit, fish, game}
@@ -18,46 +20,18 @@ use Rattle.foods.specs.Limits.{FoodsLimits}
 abbrev pub within : ℕ → List ℕ → ℕ → Bool
 within limit f k = leb (get_or f k 0) limit
 
-pub within_start : (limit : ℕ) (f : List ℕ) (from to : ℕ) → every (within limit f) from (to - from) ≡ all_within limit f from (to - from)
-unfolding all_within
-within_start limit f from to = refl
+-- a test of each of n figures from a place, as a part of them
+pub part_within : (limit : ℕ) (f : List ℕ) (from n : ℕ) → from + n ≤ length f
+    → list_all (λ figure. leb figure limit) (take n (drop from f)) ≡ all_within limit f from n
+unfolding all_within every
+part_within limit f from zero room = refl
+part_within limit f from (suc n) room =
+    rw (drop-cons f from 0 (omega arith))
+    (ap (λ (rest : Bool). within limit f from && rest) (part_within limit f (suc from) n (omega arith)))
 
 within_at : (limit : ℕ) (f : List ℕ) (from n : ℕ) → all_within limit f from n ≡ true → (k : ℕ) → from ≤ k → k < from + n → get_or f k 0 ≤ limit
 unfolding all_within
 within_at limit f from n e k a b = leb-true (get_or f k 0) limit (every-at (within limit f) from n e k a b)
-
--- the tests of `shares_fit`, in their order
-module _ (f : List ℕ) {caught : ℕ} (both : caught ≡ share_of f fish + share_of f game) where
-  pub caught-over : most_share < caught → false ≡ shares_fit f
-  unfolding shares_fit
-  caught-over h = rw (lt-leb (share_of f fish + share_of f game) most_share (rw both at h))
-
-  module _ (caught-fit : caught ≤ most_share) where
-    caught_within : leb (share_of f fish + share_of f game) most_share ≡ true
-    caught_within = le-leb (share_of f fish + share_of f game) most_share (rw both at caught-fit)
-
-    pub vegetable-over : most_share < share_of f vegetable → false ≡ shares_fit f
-    unfolding shares_fit
-    vegetable-over h = rw (caught_within, lt-leb (share_of f vegetable) most_share h)
-
-    pub fruit-last : share_of f vegetable ≤ most_share → leb (share_of f fruit) most_share ≡ shares_fit f
-    unfolding shares_fit
-    fruit-last h = rw (caught_within, le-leb (share_of f vegetable) most_share h)
-
--- the tests of `amounts_fit`, in their order
-module _ (f : List ℕ) {grams-fit : Bool} (grams : grams-fit ≡ all_within most_grams f 0 amount_count) where
-  pub grams_over : grams-fit ≡ false → false ≡ amounts_fit f
-  unfolding amounts_fit
-  grams_over e = rw (sym grams ∙ e)
-
-  module _ (within-grams : grams-fit ≡ true) {leads_fit : Bool} (leads : leads_fit ≡ all_within most_lead f leads_from food_count) where
-    pub leads_over : leads_fit ≡ false → false ≡ amounts_fit f
-    unfolding amounts_fit
-    leads_over e = rw (sym grams ∙ within-grams, sym leads ∙ e)
-
-    pub local_leads_last : leads_fit ≡ true → {fit : Bool} → fit ≡ all_within most_lead f local_leads_from local_count → fit ≡ amounts_fit f
-    unfolding amounts_fit
-    local_leads_last e local = rw (sym grams ∙ within-grams, sym leads ∙ e) local
 
 -- what the tests say of each figure
 module _ (f : List ℕ) (fit : shares_fit f ≡ true) where

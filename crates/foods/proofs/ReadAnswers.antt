@@ -5,18 +5,17 @@ use mathlib.Core.Bool.{Bool}
 use mathlib.Core.List.{List, [], ◌∷◌, ◌++◌, append-nil}
 use Prim.Native.Nat.{ℕ}
 use native.Mathlib.Omega.{arith}
-use lib.ListN.{length, take, drop, replicate, length-append, length-drop, drop_of_length-le}
+use lib.ListN.{length, take, drop, length-append, length-drop, drop_of_length-le}
 use lib.Seq.{length-take-le, take_at, drop_at}
 use borrow.Author.Tests.{eq-eqb, ne_eqb}
 use Rattle.numbers.specs.Choice.{unless, first_of}
 use Rattle.numbers.proofs.Every.{length-tab}
-use Rattle.numbers.proofs.Refusals.{or_else_first, answer_refused}
-use Rattle.block.specs.Block.{block_bytes, fields_at, block_refusal, words_from, fields_from}
+use Rattle.numbers.proofs.Refusals.{or_else_first}
+use Rattle.block.specs.Block.{block_bytes, fields_at, block_refusal, words_from, fields_from, numbers_from}
 use Rattle.block.proofs.BlockRefusals.{word_from, field_from}
 use Rattle.foods.specs.Names.{amount_count, wide_count, figure_count}
 use Rattle.foods.specs.Figures.{shares_fit, amounts_fit}
-use Rattle.foods.specs.Foods.{leads_at, foods_form, figures_of, foods_refusal, blank_figures, foods_figures}
-use Rattle.foods.specs.Internal.{Decoded}
+use Rattle.foods.specs.Foods.{leads_at, foods_form, figures_of, foods_refusal, foods_figures}
 
 -- the figures as the code leaves them, with words stored in the part lent for the grams, and then fields in the part behind it
 abbrev pub begun : List ℕ → List ℕ → List ℕ
@@ -26,11 +25,11 @@ abbrev pub stored : List ℕ → List ℕ → List ℕ → List ℕ
 stored words fields f = take amount_count (begun words f) ++ (fields ++ drop wide_count (drop amount_count (begun words f)))
 
 length_words_from : (from n : ℕ) (block : List ℕ) → length (words_from from n block) ≡ n
-unfolding words_from
+unfolding numbers_from
 length_words_from from n block = length-tab n (word_from from block)
 
 length_fields_from : (from n : ℕ) (block : List ℕ) → length (fields_from from n block) ≡ n
-unfolding fields_from
+unfolding numbers_from
 length_fields_from from n block = length-tab n (field_from from block)
 
 length-figures : (block : List ℕ) → length (figures_of block) ≡ figure_count
@@ -67,45 +66,24 @@ module _
         ap₂ ◌++◌ (take_at words (drop amount_count f) amount_count length_words ∙ its_words)
         (ap₂ ◌++◌ its-fields (drop_of_length-le behind {i = wide_count} (omega (arith, length_behind))) ∙ append-nil (fields_from leads_at wide_count block))
 
--- what decoding a block leaves, by what the code reads on its way
+-- by both tests of the figures, in their order
 module _ (block : List ℕ) where
-  -- refused before a figure is stored
-  module _ (f : List ℕ) (full : length f ≡ figure_count) where
-    refused_unread : (r : ℕ) → r ≡ foods_refusal block → (r ≡ 0 → ⊥) → Decoded block f r
-    refused_unread r e h = record { refusal = e; long = full; figures = λ z. absurd (h z) }
+  pub length_refused : (length block ≡ block_bytes → ⊥) → 1 ≡ foods_refusal block
+  unfolding foods_refusal unless
+  length_refused h = rw (ne_eqb (length block) block_bytes h)
 
-    pub refused_length : (length block ≡ block_bytes → ⊥) → Decoded block f 1
-    unfolding foods_refusal unless
-    refused_length h = refused_unread 1 (rw (ne_eqb (length block) block_bytes h)) (λ e. omega arith)
+  pub header_refused : length block ≡ block_bytes → (r : ℕ) → r ≡ block_refusal block foods_form → (r ≡ 0 → ⊥) → r ≡ foods_refusal block
+  unfolding foods_refusal unless
+  header_refused long r header h = sym (rw (eq-eqb (length block) block_bytes long, ← header) (or_else_first r _ h))
 
-    pub refused_header : length block ≡ block_bytes → (r : ℕ) → r ≡ block_refusal block foods_form → (r ≡ 0 → ⊥) → Decoded block f r
-    unfolding foods_refusal unless
-    refused_header long r header h =
-        refused_unread r (sym (rw (eq-eqb (length block) block_bytes long, ← header) (or_else_first r _ h))) h
-
-  -- by both tests of the figures, in their order
-  module _ (long : length block ≡ block_bytes) (header : block_refusal block foods_form ≡ 0) {after : List ℕ} (read : after ≡ figures_of block) where
+  module _ (long : length block ≡ block_bytes) (header : 0 ≡ block_refusal block foods_form) {after : List ℕ} (read : after ≡ figures_of block) where
     pub refusal_by_tests : {shares amounts : Bool} → shares ≡ shares_fit after → amounts ≡ amounts_fit after
         → first_of (unless shares 10 ∷ unless amounts 11 ∷ []) ≡ foods_refusal block
     unfolding foods_refusal unless
     refusal_by_tests shares-tested amounts-tested =
-        rw (eq-eqb (length block) block_bytes long, header)
+        rw (eq-eqb (length block) block_bytes long, sym header)
         (ap₂ (λ (s a : Bool). first_of (unless s 10 ∷ unless a 11 ∷ [])) (shares-tested ∙ ap shares_fit read) (amounts-tested ∙ ap amounts_fit read))
 
-    pub decoded_tested : {shares amounts : Bool} → shares ≡ shares_fit after → amounts ≡ amounts_fit after
-        → Decoded block after (first_of (unless shares 10 ∷ unless amounts 11 ∷ []))
-    decoded_tested shares-tested amounts-tested =
-        record { refusal = refusal_by_tests shares-tested amounts-tested; long = ap length read ∙ length-figures block; figures = λ z. read }
-
--- what reading a block answers and leaves, by what decoding it left
-module _ (block : List ℕ) {decoded : List ℕ} {r : ℕ} (d : Decoded block decoded r) where
-  pub refused_blank : (r ≡ 0 → ⊥) → {figures : List ℕ} → figures ≡ replicate (length decoded) 0 → (r ≡ foods_refusal block) × (figures ≡ foods_figures block)
-  unfolding foods_figures
-  refused_blank h zeros = (
-    d.refusal,
-    zeros ∙ ap (λ (n : ℕ). replicate n 0) d.long ∙ sym (answer_refused (figures_of block) (λ n. blank_figures) (foods_refusal block) (rw d.refusal at h)),
-  )
-
-  pub accepted_block : r ≡ 0 → (0 ≡ foods_refusal block) × (decoded ≡ foods_figures block)
-  unfolding foods_figures
-  accepted_block z = (sym z ∙ d.refusal, d.figures z ∙ rw (sym d.refusal ∙ z))
+    pub accepted_block : 0 ≡ foods_refusal block → after ≡ foods_figures block
+    unfolding foods_figures
+    accepted_block z = read ∙ rw (sym z)

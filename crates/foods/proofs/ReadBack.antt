@@ -33,7 +33,7 @@ unfolding unless
 body_read_back body target passes shares amounts room =
     let same = figures-sealed body passes.long in
     let accepted : foods_refusal (sealed body) ≡ 0 =
-    sym (refusal_by_tests (sealed body) (length-sealed body passes.long) (sealed_passes body passes.long foods_form passes) (sym same) (sym shares) (sym amounts)) in
+    sym (refusal_by_tests (sealed body) (length-sealed body passes.long) (sym (sealed_passes body passes.long foods_form passes)) (sym same) (sym shares) (sym amounts)) in
     rw (written-sealed body target passes.long room)
     (record { refusal = accepted; figures = accepted_figures (sealed body) accepted ∙ same })
 

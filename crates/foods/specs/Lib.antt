@@ -1,6 +1,6 @@
 pub mod Names
+pub mod Places
 pub mod Figures
 pub mod Limits
 pub mod Foods
-pub mod Internal
 pub mod Laws

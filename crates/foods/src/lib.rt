@@ -1,21 +1,19 @@
 // The foods block: the grams of fifteen foods at each age, their lead, and what local foods replace, read or refused.
 #![tactic(auto)]
 
-ghost use Rattle.std.specs.Prelude.{◌≡◌, length};
-ghost use Rattle.foods.specs.Names.{figure_count};
+ghost use Rattle.std.specs.Prelude.{◌≡◌, IfOk};
+ghost use Rattle.refusal.specs.Refusal.{number_in};
 ghost use Rattle.foods.specs.Foods.{foods_refusal, foods_figures};
-ghost use Rattle.foods.specs.Internal.{Decoded};
 
-use block::{BLOCK_BYTES, FIELDS_AT, Form, WRONG_LENGTH};
+use block::read::{Fields, Words};
+use block::{BLOCK_BYTES, FIELDS_AT, Form};
+use figures::FoodsFigures;
 use places::{AMOUNTS, FIGURES, WIDE_FIGURES};
+use refusal::Refusal;
 
+pub mod figures;
 mod limits;
 pub mod places;
-
-// Shares that take more than there is, and an amount or a lead over its limit.
-const SHARES_OVER: u32 = 10;
-
-const AMOUNT_OVER: u32 = 11;
 
 pub const FOODS_BYTES: usize = BLOCK_BYTES;
 
@@ -29,38 +27,25 @@ const FOODS_FORM: Form = Form {
     used: LEADS_AT + 4 * WIDE_FIGURES,
 };
 
-// Decodes a foods block into its figures. Answers why it is refused, or 0.
-fn decode(block: &[u8], figures: &mut [u32]) -> u32
-    requires { length figures.old ≡ figure_count }
-    ensures { Decoded block.now figures.new result }
+// Reads a foods block into its 128 figures.
+pub fn read_foods(block: &[u8]) -> Result<FoodsFigures, Refusal>
+    ensures number { number_in result ≡ foods_refusal block.now }
+    ensures figures { IfOk result (λ f. f.figures ≡ foods_figures block.now) }
 {
     if block.len() != FOODS_BYTES {
-        return WRONG_LENGTH;
+        return Err(Refusal::WrongLength);
     }
-    let refusal = block::read::block_refusal(block, FOODS_FORM);
-    if refusal != 0 {
-        return refusal;
+    block::read::check_block(block, FOODS_FORM)?;
+    let mut figures = [0u32; FIGURES];
+    block::read::read_numbers::<Words>(block, FIELDS_AT, &mut figures[..AMOUNTS]);
+    block::read::read_numbers::<Fields>(block, LEADS_AT, &mut figures[AMOUNTS..FIGURES]);
+    let shares = limits::shares_fit(&figures);
+    let amounts = limits::amounts_fit(&figures);
+    if !shares {
+        return Err(Refusal::SharesOver);
     }
-    block::read::read_words(block, FIELDS_AT, &mut figures[0..AMOUNTS]);
-    block::read::read_fields(block, LEADS_AT, &mut figures[AMOUNTS..FIGURES]);
-    let shares = limits::shares_fit(figures);
-    let amounts = limits::amounts_fit(figures);
-    if shares {
-        if amounts { 0 } else { AMOUNT_OVER }
-    } else {
-        SHARES_OVER
+    if !amounts {
+        return Err(Refusal::AmountOver);
     }
-}
-
-// Reads a foods block into its 128 figures, and answers 0; or answers why it is refused, with figures of 0.
-pub fn read_foods(block: &[u8], figures: &mut [u32; FIGURES]) -> u32
-    ensures value { result ≡ foods_refusal block.now }
-    ensures figures_after { figures.new ≡ foods_figures block.now }
-{
-    let refusal = decode(block, figures);
-    if refusal != 0 {
-        block::read::blank(figures);
-        return refusal;
-    }
-    0
+    Ok(FoodsFigures { figures })
 }

@@ -1,9 +1,11 @@
 // The limits of a foods block's figures.
-ghost use Rattle.std.specs.Prelude.{◌≡◌, ◌+◌, ◌-◌, ◌≤◌, length};
+ghost use Rattle.std.specs.Prelude.{◌≡◌, ◌-◌, ◌≤◌, nat_le};
+ghost use Rattle.std.specs.List.{list_all};
 ghost use Rattle.foods.specs.Names.{figure_count};
 ghost use Rattle.foods.specs.Figures.{shares_fit, all_within, amounts_fit};
 
 use super::places;
+use super::places::{FIGURES, LocalFood};
 
 const SHARE_MOST: u32 = 100; // hundredths
 
@@ -13,65 +15,40 @@ const GRAMS_MOST: u32 = 10_000; // g/day
 
 const LEAD_MOST: u32 = 1_000_000; // pg/g
 
-// Two shares together, in 64 bits.
-fn together(a: u32, b: u32) -> u64
-    ensures { result ≡ a + b }
-{
-    a as u64 + b as u64
-}
-
 // Does no share take more than there is?
-pub fn shares_fit(figures: &[u32]) -> bool
-    requires { length figures.now ≡ figure_count }
+#[tactic(auto, unfolding(crate::specs::Figures::shares_fit))]
+pub fn shares_fit(figures: &[u32; FIGURES]) -> bool
     ensures { result ≡ shares_fit figures.now }
 {
-    let fish = figures[places::SHARES_FROM + places::FISH];
-    let game = figures[places::SHARES_FROM + places::GAME];
-    let vegetable = figures[places::SHARES_FROM + places::VEGETABLE];
-    let fruit = figures[places::SHARES_FROM + places::FRUIT];
-    let caught = together(fish, game);
-    if caught > CAUGHT_MOST {
-        return false;
-    }
-    if vegetable > SHARE_MOST {
-        return false;
-    }
-    fruit <= SHARE_MOST
+    let fish = figures[places::SHARES_FROM + LocalFood::Fish as usize];
+    let game = figures[places::SHARES_FROM + LocalFood::Game as usize];
+    let vegetable = figures[places::SHARES_FROM + LocalFood::Vegetable as usize];
+    let fruit = figures[places::SHARES_FROM + LocalFood::Fruit as usize];
+    let caught = fish as u64 + game as u64;
+    caught <= CAUGHT_MOST && vegetable <= SHARE_MOST && fruit <= SHARE_MOST
+}
+
+// Is none of these figures above a limit?
+fn none_above(limit: u32, figures: &[u32]) -> bool
+    ensures { result ≡ list_all (λ figure. nat_le figure limit) figures.now }
+{
+    figures.iter().all(|figure| *figure <= limit)
 }
 
 // Is each of the figures from `from` up to `to` at most a limit?
-fn all_within(limit: u32, figures: &[u32], from: usize, to: usize) -> bool
-    requires { to ≤ length figures.now }
+fn all_within(limit: u32, figures: &[u32; FIGURES], from: usize, to: usize) -> bool
+    requires { (from ≤ to) × (to ≤ figure_count) }
     ensures { result ≡ all_within limit figures.now from (to - from) }
 {
-    let mut k = from;
-    while k < to {
-        let figure = figures[k];
-        if figure > limit {
-            return false;
-        }
-        k = k + 1;
-    }
-    true
+    none_above(limit, &figures[from..to])
 }
 
 // Is each amount, and each lead, within its limit?
-pub fn amounts_fit(figures: &[u32]) -> bool
-    requires { length figures.now ≡ figure_count }
+#[tactic(auto, unfolding(crate::specs::Figures::amounts_fit))]
+pub fn amounts_fit(figures: &[u32; FIGURES]) -> bool
     ensures { result ≡ amounts_fit figures.now }
 {
-    if all_within(GRAMS_MOST, figures, 0, places::AMOUNTS) {
-        if all_within(LEAD_MOST, figures, places::LEADS_FROM, places::SHARES_FROM) {
-            all_within(
-                LEAD_MOST,
-                figures,
-                places::LOCAL_LEADS_FROM,
-                places::FIGURES,
-            )
-        } else {
-            false
-        }
-    } else {
-        false
-    }
+    all_within(GRAMS_MOST, figures, 0, places::AMOUNTS)
+        && all_within(LEAD_MOST, figures, places::LEADS_FROM, places::SHARES_FROM)
+        && all_within(LEAD_MOST, figures, places::LOCAL_LEADS_FROM, FIGURES)
 }

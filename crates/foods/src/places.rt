@@ -1,49 +1,63 @@
-// The places of the foods, in the order of E-4d to E-4r, and of the local foods, which replace a share of others.
+// The foods in the order of E-4d to E-4r, the local foods, which replace a share of others, and the places of their figures.
+ghost use Rattle.std.specs.Prelude.{◌≡◌, ◌<◌};
+ghost use Rattle.foods.specs.Names.{food_count, local_count};
+ghost use Rattle.foods.specs.Places.{place_of, local_place};
+
 use site::places::AGES;
 
-pub const BEVERAGE: usize = 0;
+// A food.
+#[derive(Clone, Copy, Debug, PartialEq, Eq)]
+pub enum Food {
+    Beverage,
+    Bread,
+    CanFruit,
+    CanVeg,
+    Candy,
+    Dairy,
+    FreshFruit,
+    FreshVeg,
+    Formula,
+    Infant,
+    Juices,
+    Meat,
+    Nuts,
+    Pasta,
+    Sauce,
+}
 
-pub const BREAD: usize = 1;
+impl Food {
+    // Its place among the foods.
+    pub fn place(self) -> usize
+        ensures place { result ≡ place_of self }
+        ensures below { result < food_count }
+    {
+        self as usize
+    }
+}
 
-pub const CAN_FRUIT: usize = 2;
+// A local food: home-grown vegetable and fruit, fish and game. Their shares and their leads stand in this order.
+#[derive(Clone, Copy, Debug, PartialEq, Eq)]
+pub enum LocalFood {
+    Vegetable,
+    Fruit,
+    Fish,
+    Game,
+}
 
-pub const CAN_VEG: usize = 3;
+impl LocalFood {
+    // Its place among the local foods.
+    pub fn place(self) -> usize
+        ensures place { result ≡ local_place self }
+        ensures below { result < local_count }
+    {
+        self as usize
+    }
+}
 
-pub const CANDY: usize = 4;
-
-pub const DAIRY: usize = 5;
-
-pub const FRESH_FRUIT: usize = 6;
-
-pub const FRESH_VEG: usize = 7;
-
-pub const FORMULA: usize = 8;
-
-pub const INFANT: usize = 9;
-
-pub const JUICES: usize = 10;
-
-pub const MEAT: usize = 11;
-
-pub const NUTS: usize = 12;
-
-pub const PASTA: usize = 13;
-
-pub const SAUCE: usize = 14;
-
-// The number of foods, and of their amounts at all ages.
+// The number of foods, of their amounts at all ages, and of local foods.
 pub const FOODS: usize = 15;
 
 pub const AMOUNTS: usize = AGES * FOODS;
-
-// The local foods: home-grown vegetable and fruit, fish and game. Their shares and their leads stand in this order.
-pub const VEGETABLE: usize = 0;
-
-pub const FRUIT: usize = 1;
-
-pub const FISH: usize = 2;
-
-pub const GAME: usize = 3;
 
 pub const LOCAL_FOODS: usize = 4;
 

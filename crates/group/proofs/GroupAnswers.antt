@@ -10,7 +10,7 @@ use lib.ListN.{length, get_or, length-take, length-map}
 use Rattle.numbers.specs.Parts.{part_at}
 use Rattle.numbers.proofs.Refusals.{answer_refused}
 use Rattle.site.specs.declared.Scenario.{Scenario}
-use Rattle.files.specs.declared.FilesRead.{FilesRead}
+use Rattle.files.specs.FilesRead.{FilesRead}
 use Rattle.files.specs.Files.{Files, files_decodes}
 use Rattle.files.specs.Internal.{FilesAreRead}
 use Rattle.engine.proofs.FilesDecoded.{files_passed, read_as_lem}

@@ -12,11 +12,11 @@ use borrow.Author.Tests.{leb-true}
 use Rattle.numbers.specs.Choice.{every}
 use Rattle.numbers.proofs.Every.{and_left, and_right, every-at, length-tab}
 use Rattle.numbers.proofs.Refusals.{first_of_none, unless_none, answer_number, OfInput, unless_of_input, first_of_of_input}
-use Rattle.block.specs.Block.{fields_from}
+use Rattle.block.specs.Block.{numbers_from}
 use Rattle.block.proofs.BlockRefusals.{block_of_input}
 use Rattle.block.proofs.Sealed.{accepted_check}
 use Rattle.site.specs.declared.Scenario.{Scenario}
-use Rattle.site.specs.declared.SiteRead.{SiteRead}
+use Rattle.site.specs.SiteRead.{SiteRead}
 use Rattle.site.specs.Fields.{field_count, singles_at, mother_at, at, limits, first_draw_share_in, fountain_share_in, saturation_in, within_limits, saturation_fits, shares_fit, fields_fit}
 use Rattle.site.specs.Scenario.{scenario_of}
 use Rattle.site.specs.Site.{site_form, site_fields, site_refusals, site_refusal, read_as, refused_with, read_site}
@@ -72,7 +72,7 @@ module _ (site : List ℕ) (passed : site_refusal site ≡ 0) where
   accepted_fit = ap (λ (s : Scenario). fields_fit s.fields) accepted_scenario ∙ fields_passed
 
   pub accepted_fits : Fits (read_site site).scenario.fields
-  unfolding scenario_of fields_from
+  unfolding scenario_of numbers_from
   accepted_fits = record { long = ap (λ (s : Scenario). length s.fields) accepted_scenario ∙ length-tab field_count _; fit = accepted_fit }
 
 pub mother_accepted : MotherWithin
@@ -81,6 +81,14 @@ mother_accepted site passed = field_le (read_site site).scenario.fields (accepte
 
 pub right_check : RightCheck
 right_check site passed = accepted_check site site_form (none site passed 1)
+
+-- what an answer of the reader says of the refusal
+pub site_refused : (site : List ℕ) (r : ℕ) → refused_with r ≡ read_site site → r ≡ site_refusal site
+unfolding refused_with
+site_refused site r e = ap (λ (x : SiteRead). x.refusal) e ∙ read_refusal site
+
+pub site_accepted : (site : List ℕ) (s : Scenario) → ◌≡◌ {A = SiteRead} (record { refusal = 0; scenario = s }) (read_site site) → 0 ≡ site_refusal site
+site_accepted site s e = ap (λ (x : SiteRead). x.refusal) e ∙ read_refusal site
 
 -- a site file's refusals are from the input
 pub site_of_input : (site : List ℕ) → OfInput (site_refusal site)

@@ -2,14 +2,15 @@
 -- Assumes nothing.
 use mathlib.Core.Path.{◌≡◌, refl, sym, ap, ◌∙◌}
 use mathlib.Core.Bool.{true, ◌&&◌}
-use mathlib.Core.List.{List}
+use mathlib.Core.List.{List, []}
 use Prim.Native.Nat.{ℕ, zero, suc, ◌+◌, ◌*◌, ◌/◌, ◌≤◌, ◌<◌}
 use native.Mathlib.Numerals.{add-one}
 use native.Mathlib.Omega.{arith}
 use native.Mathlib.Decide.{ℕ_discrete}
 use borrow.Author.Tests.{le-leb, eqb-true}
-use lib.ListN.{length, set, length-set}
-use lib.Seq.{get_or-set_same, get_or-set_other}
+use lib.ListN.{length, set, replicate, length-set}
+use lib.Seq.{get_or-set_same, get_or-set_other, paste}
+use Rattle.std.proofs.lemmas.List.Edits.{paste_none, fill_from_more}
 use lib.Dec.{eqb}
 use Rattle.numbers.specs.Choice.{every}
 use Rattle.numbers.proofs.Every.{and_true, every_of, every-at}
@@ -111,28 +112,12 @@ pub every_age_fits : EveryAgeFits
 every_age_fits fields was g h v l =
     put-from-fits fields was (ages * g) v ages (omega arith) (λ k s. omega (arith, group_limit g h k s))
 
--- the loop of `every_age`: the figure stands at the ages passed
-pub record InAges (group v : ℕ) (fields changed : List ℕ) (age : ℕ) : Type 0 where
-  pub room : group + ages ≤ field_count
-  pub reach : age ≤ ages
-  pub same : changed ≡ put_from group age v fields
-
-pub ages_none : (group v : ℕ) (fields : List ℕ) → group + ages ≤ field_count → InAges group v fields fields 0
+-- the figure put at n places, as one part of the fields
+pub put_from_part : (fields : List ℕ) (from v n : ℕ) → from + n ≤ length fields → put_from from n v fields ≡ paste fields from (replicate n v) n
 unfolding put_from
-ages_none group v fields room = record { room = room; reach = omega arith; same = refl }
-
-module _ {group v : ℕ} {fields changed : List ℕ} {age : ℕ} (inv : InAges group v fields changed age) where
-  pub ages-next : age < ages → InAges group v fields (set changed (group + age) v) (age + 1)
-  unfolding put_from
-  ages-next h =
-      record {
-        room = inv.room;
-        reach = omega arith;
-        same = rw add-one (ap (λ (l : List ℕ). set l (group + age) v) inv.same);
-      }
-
-  pub ages_all : ages ≤ age → changed ≡ put_from group ages v fields
-  ages_all h = let all : age ≡ ages = omega (arith, inv.reach) in rw all at inv.same
+put_from_part fields from v zero room = paste_none fields from []
+put_from_part fields from v (suc n) room =
+    ap (λ (l : List ℕ). set l (from + n) v) (put_from_part fields from v n (omega arith)) ∙ fill_from_more fields from n v (omega arith) ∙ ap (λ (k : ℕ). paste fields from (replicate k v) k) (add-one n)
 
 -- what was put stands, and the rest stays
 pub every_age_puts : EveryAgePuts

@@ -1,5 +1,6 @@
 // The limits of a site file's fields.
-ghost use Rattle.std.specs.Prelude.{◌≡◌};
+ghost use Rattle.std.specs.Prelude.{◌≡◌, nat_le};
+ghost use Rattle.std.specs.List.{list_all, zip};
 ghost use Rattle.site.specs.Fields.{within_limits, fields_fit};
 
 use super::places;
@@ -108,31 +109,27 @@ pub const SATURATION_LEAST: u32 = 1_000_000; // pg/day
 pub const SHARES_MOST: u64 = 100; // hundredths
 
 // Is each field at most its limit?
-fn within_limits(fields: [u32; places::FIELDS]) -> bool
-    ensures { result ≡ within_limits fields }
+fn within_limits(fields: &[u32; places::FIELDS]) -> bool
+    ensures { result ≡ within_limits fields.now }
 {
-    let limits = LIMITS; // once, and not at each turn
-    let mut place: usize = 0;
-    while place < places::FIELDS {
-        if fields[place] > limits[place] {
-            return false;
-        }
-        place = place + 1;
-    }
-    true
+    none_above(fields, &LIMITS)
+}
+
+// Is each of these figures at most the limit at its place?
+fn none_above(figures: &[u32], limits: &[u32]) -> bool
+    ensures { result ≡ list_all (λ p. nat_le p.0 p.1) (zip figures.now limits.now) }
+{
+    figures
+        .iter()
+        .zip(limits)
+        .all(|(figure, limit)| *figure <= *limit)
 }
 
 // Are the fields within their limits, saturation's lower end and the rule on the two water shares among them?
-pub fn fields_fit(fields: [u32; places::FIELDS]) -> bool
-    ensures { result ≡ fields_fit fields }
+#[tactic(auto, unfolding(crate::specs::Fields::fields_fit))]
+pub fn fields_fit(fields: &[u32; places::FIELDS]) -> bool
+    ensures { result ≡ fields_fit fields.now }
 {
-    if within_limits(fields) {
-        if fields[places::SATURATION] < SATURATION_LEAST {
-            return false;
-        }
-        fields[places::FIRST_DRAW_SHARE] as u64 + fields[places::FOUNTAIN_SHARE] as u64
-            <= SHARES_MOST
-    } else {
-        false
-    }
+    let shares = fields[places::FIRST_DRAW_SHARE] as u64 + fields[places::FOUNTAIN_SHARE] as u64;
+    within_limits(fields) && fields[places::SATURATION] >= SATURATION_LEAST && shares <= SHARES_MOST
 }

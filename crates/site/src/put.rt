@@ -10,11 +10,7 @@ pub fn every_age(fields: &mut [u32; places::FIELDS], group: usize, figure: u32)
     requires { group + ages ≤ field_count }
     ensures { fields.new ≡ put_from group ages figure fields.old }
 {
-    let mut age: usize = 0;
-    while age < places::AGES {
-        fields[group + age] = figure;
-        age = age + 1;
-    }
+    fields[group..group + places::AGES].fill(figure);
 }
 
 // A figure at one place.

@@ -7,7 +7,7 @@ use Rattle.numbers.proofs.Refusals.{answer_refused}
 use Rattle.site.specs.declared.Scenario.{Scenario}
 use Rattle.site.proofs.FieldsWithin.{accepted_fits, mother_accepted}
 use Rattle.book.proofs.RowsWithin.{rows_within}
-use Rattle.files.specs.declared.FilesRead.{FilesRead}
+use Rattle.files.specs.FilesRead.{FilesRead}
 use Rattle.files.specs.Files.{Files, files_refusal, scenario_in, table_in}
 use Rattle.files.specs.Internal.{FilesAreRead}
 use Rattle.files.proofs.FilesPassed.{site_passed, book_passed}

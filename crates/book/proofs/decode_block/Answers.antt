@@ -1,36 +1,33 @@
 -- `book::decode_block` meets its contract: refused by its header, or its numbers placed and its rows tested.
-use mathlib.Core.Path.{◌≡◌, refl, sym, ap, ◌∙◌}
-use Prim.Native.Nat.{◌+◌, ◌-◌, ◌*◌}
-use lib.ListN.{take, drop}
-use mathlib.Core.Bool.{Bool}
+use Rattle.std.proofs.Common.{◌≡◌, sym, ap, ◌∙◌, Bool}
+use Rattle.std.proofs.lemmas.Result.{err_from_is_err_and}
 use Rattle.numbers.specs.Choice.{unless}
-use Rattle.block.specs.Block.{block_bytes, block_refusal}
-use Rattle.book.specs.Book.{book_form}
+use Rattle.block.proofs.RefusalNumbers.{some_number}
+use Rattle.block.specs.Block.{block_refusal}
 use Rattle.book.specs.Internal.{BlockDecoded}
 use Rattle.book.proofs.Decode.{stored, refused_by_header, checked_rows}
 use Rattle.book.proofs.decode_block.Goals as goal
-use Rattle.book.proofs.decode_block.Goals.{After-rows_fit-fit}
+use Rattle.book.proofs.decode_block.Goals.{After-rows_fit}
 
 -- the numbers stored, by what the test of their rows answered
-rows-tested : {fit : Bool} (c : After-rows_fit-fit) → c.rows_fit-fit.result ≡ fit →
+rows-tested : {fit : Bool} (c : After-rows_fit) → c.rows_fit.result ≡ fit →
     let a = c.args in
-    BlockDecoded a.book.now a.n a.table.now (stored a.n c.read_fields.new.target a.table.now) (unless fit 8)
+    BlockDecoded a.book.now a.n a.table.now (stored a.n c.read_numbers.new.target a.table.now) (unless fit 8)
 rows-tested c answered =
-    checked_rows _ c.args.n _ c.requires.1.0 c.requires.1.1.0 (sym (c.block_refusal-refusal.ensures ∙ ap (block_refusal _) c.book_form-due.ensures) ∙ c.if-refusal-ne0.false) _
-    c.read_fields.ensures (sym c.rows_fit-fit.ensures ∙ answered)
+    checked_rows _ c.args.n _ c.told-table c.requires.1.0 (sym (c.in_ok-check_block.ensures ∙ ap (block_refusal _) c.book_form.ensures)) _
+    c.read_numbers.ensures (sym c.rows_fit.ensures ∙ answered)
 
 -- the header is held to the form that the code made
-pub returns-then-refusal-ne0 : goal.returns-then-refusal-ne0
-returns-then-refusal-ne0 c =
-    let header : (let a = c.args in c.block_refusal-refusal.result ≡ block_refusal (take (block_bytes * a.n + block_bytes - block_bytes * a.n) (drop (block_bytes * a.n) a.book.now)) (book_form a.n)) =
-    c.block_refusal-refusal.ensures ∙ ap (block_refusal _) c.book_form-due.ensures
-    in
-    record { block_decoded = refused_by_header c.args.book.now c.args.n c.args.table.now c.requires.1.0 c.block_refusal-refusal.result (header) c.if-refusal-ne0.true; decodes_value = refl }
+pub returns-in_err-check_block-clause-block_decoded : goal.returns-in_err-check_block-clause-block_decoded
+returns-in_err-check_block-clause-block_decoded c =
+    let p = err_from_is_err_and c.from_residual.result c.from_residual.ensures.1 in
+    rw (p.1, p.2)
+    (refused_by_header c.args.book.now c.args.n c.args.table.now c.told-table _ (c.in_err-check_block.ensures ∙ ap (block_refusal _) c.book_form.ensures) (some_number _))
 
-pub returns-then-fit : goal.returns-then-fit
+pub returns-then-rows_fit-clause-block_decoded : goal.returns-then-rows_fit-clause-block_decoded
 unfolding unless
-returns-then-fit c = record { block_decoded = rows-tested (goal.at.returns-then-fit c).After-rows_fit-fit c.if-fit.true; decodes_value = refl }
+returns-then-rows_fit-clause-block_decoded c = rows-tested (goal.at.returns-then-rows_fit-clause-block_decoded c).After-rows_fit c.if-rows_fit.true
 
-pub returns-else-fit : goal.returns-else-fit
+pub returns-else-rows_fit-clause-block_decoded : goal.returns-else-rows_fit-clause-block_decoded
 unfolding unless
-returns-else-fit c = record { block_decoded = rows-tested (goal.at.returns-else-fit c).After-rows_fit-fit c.if-fit.false; decodes_value = refl }
+returns-else-rows_fit-clause-block_decoded c = rows-tested (goal.at.returns-else-rows_fit-clause-block_decoded c).After-rows_fit c.if-rows_fit.false

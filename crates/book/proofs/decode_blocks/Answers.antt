@@ -1,26 +1,24 @@
 -- `book::decode_blocks` meets its contract: at block n the table has the numbers of the blocks before, and each of these is counted.
-use Prim.Native.Nat.{◌<◌}
-use native.Mathlib.Omega.{arith}
-use Rattle.book.specs.Book.{book_blocks}
+use Rattle.std.proofs.Common.{refl}
+use Rattle.std.proofs.lemmas.Result.{err_from_is_err_and}
+use Rattle.block.proofs.RefusalNumbers.{some_number}
 use Rattle.book.proofs.Decode.{at_first, at_refused, at_next, at_end}
 use Rattle.book.proofs.decode_blocks.Goals as goal
 
 pub loop-n-init : goal.loop-n-init
-loop-n-init c = at_first _ _ c.requires.1
+loop-n-init c = rw c.requires.1 (at_first _ _ c.told-table)
 
-pub returns-then-read-ne0 : goal.returns-then-read-ne0
-returns-then-read-ne0 c =
-    let below : c.loop-n.n < book_blocks =
-    omega (arith, c.loop-n-test.true)
-    in
-    at_refused _ _ c.loop-n.n c.loop-n.decodes c.loop-n.invariant (below) _ _ c.decode_block-read.ensures.block_decoded c.decode_block-read.ensures.decodes_value c.if-read-ne0.true
+pub returns-in_err-decode_block : goal.returns-in_err-decode_block
+returns-in_err-decode_block c =
+    let p = err_from_is_err_and c.from_residual.result c.from_residual.ensures.1 in
+    let e = c.in_err-decode_block.ensures in
+    rw (p.1, p.2)
+    (at_refused _ _ c.loop-n.n c.loop-n.decodes c.loop-n.invariant c.loop-n-test.true _ (record { refusal = _; decodes = _ }) e.block_decoded e.decodes_after (some_number _))
 
 pub loop-n-preserved : goal.loop-n-preserved
 loop-n-preserved c =
-    let below : c.loop-n.n < book_blocks =
-    omega (arith, c.loop-n-test.true)
-    in
-    at_next _ _ c.loop-n.n c.loop-n.decodes c.loop-n.invariant (below) _ _ c.decode_block-read.ensures.block_decoded c.decode_block-read.ensures.decodes_value c.if-read-ne0.false
+    let e = c.in_ok-decode_block.ensures in
+    at_next _ _ c.loop-n.n c.loop-n.decodes c.loop-n.invariant c.loop-n-test.true _ (record { refusal = 0; decodes = _ }) e.block_decoded e.decodes_after refl
 
 pub returns : goal.returns
 returns c = at_end _ _ c.loop-n.n c.loop-n.decodes c.loop-n.invariant c.loop-n-test.false

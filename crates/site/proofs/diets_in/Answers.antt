@@ -1,11 +1,10 @@
 -- `site::diets_in` meets its contract: the diets copied so far are the first of the group.
-use mathlib.Core.Path.{refl}
-use borrow.Author.Rules.{rules}
+use Rattle.std.proofs.Common.{refl}
 use Rattle.numbers.proofs.Loops.{filled_none, filled_next}
 use Rattle.site.proofs.diets_in.Goals as goal
 
 pub loop-age-init : goal.loop-age-init
-loop-age-init c = (search rules, filled_none _ _ refl)
+loop-age-init c = filled_none _ _ refl
 
 pub loop-age-preserved : goal.loop-age-preserved
-loop-age-preserved c = (c.loop-age.invariant.0, filled_next c.loop-age.invariant.1 c.loop-age-test.true refl)
+loop-age-preserved c = filled_next c.loop-age.invariant c.loop-age-test.true refl

@@ -1,5 +1,4 @@
 -- `block::read::check_of` meets its contract: the sum so far is over the words passed, and at most 65,535 * 254 for each.
-use Prim.Native.Nat.{◌-◌}
 use Rattle.numbers.proofs.Loops.{Summed}
 use Rattle.block.specs.Block.{checked_words}
 use Rattle.block.proofs.BlockRefusals.{weighed}
@@ -7,6 +6,3 @@ use Rattle.block.proofs.read.check_of.Given as goal
 
 abbrev pub invariant-loop-n : goal.invariant-loop-n
 invariant-loop-n l = Summed (weighed l.s) checked_words 16645890 0 l.sum l.n
-
-abbrev pub decreases-loop-n : goal.decreases-loop-n
-decreases-loop-n l = checked_words - l.n

@@ -8,16 +8,16 @@ pub returns-then-body-ne-CHECK_AT : goal.returns-then-body-ne-CHECK_AT
 returns-then-body-ne-CHECK_AT c =
     let whole =
     left_written _ _ (unwritable_body _ _ c.if-body-ne-CHECK_AT.true) in
-    record { value = whole.0; target_after = whole.1 }
+    record { number = whole.0; target_after = whole.1 }
 
 pub returns : goal.returns
 returns c =
     let a = c.args in
     let copied = c.copy.ensures ∙ ap (λ (front : List ℕ). front ++ drop (length a.body.now) a.target.now) (sym (take-length a.body.now)) in
     let whole = stored_written a.body.now a.target.now c.if-body-ne-CHECK_AT.false c.if-target-ne-BLOCK_BYTES.false copied c.check_of-check.ensures c.put_field.ensures in
-    record { value = whole.0; target_after = whole.1 }
+    record { number = whole.0; target_after = whole.1 }
 
 pub returns-then-target-ne-BLOCK_BYTES : goal.returns-then-target-ne-BLOCK_BYTES
 returns-then-target-ne-BLOCK_BYTES c =
     let whole = left_written _ _ (unwritable_target _ _ c.if-body-ne-CHECK_AT.false c.if-target-ne-BLOCK_BYTES.true) in
-    record { value = whole.0; target_after = whole.1 }
+    record { number = whole.0; target_after = whole.1 }

@@ -1,21 +1,9 @@
--- `foods::limits::all_within` meets its contract: what is left to look at answers as the whole does.
-use borrow.Author.Tests.{le-leb, lt-leb}
-use Rattle.numbers.proofs.Every.{every-next, every_stop, every_done}
-use Rattle.foods.proofs.FigureTests.{within_start}
+-- `foods::limits::all_within` meets its contract: a part of the figures is tested as the definition does.
+use Rattle.std.proofs.Common.{◌∙◌, ◌-◌, arith}
+use Rattle.foods.proofs.FigureTests.{part_within}
 use Rattle.foods.proofs.limits.all_within.Goals as goal
 
-pub loop-k-init : goal.loop-k-init
-loop-k-init c = within_start _ _ _ _
-
-pub returns-then-figure-limit : goal.returns-then-figure-limit
-returns-then-figure-limit c =
-    let l = c.loop-k in
-    every_stop _ l.k _ l.invariant c.loop-k-test.true (lt-leb _ _ c.if-figure-limit.true)
-
-pub loop-k-preserved : goal.loop-k-preserved
-loop-k-preserved c =
-    let l = c.loop-k in
-    every-next _ l.k _ l.invariant c.loop-k-test.true (le-leb _ _ c.if-figure-limit.false)
-
 pub returns : goal.returns
-returns c = every_done _ c.loop-k.k _ c.loop-k.invariant c.loop-k-test.false
+returns c =
+    let a = c.args in
+    c.none_above.ensures ∙ part_within a.limit a.figures.now a.from (a.to - a.from) (omega (arith, c.requires.0, c.requires.1, c.told-figures))
