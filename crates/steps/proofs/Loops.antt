@@ -28,7 +28,7 @@ use Rattle.steps.specs.Internal.{Steppable, ReachedBy}
 use Rattle.steps.proofs.Shares.{sum_of, day_total, days_total}
 
 -- no refusal has the number 0
-refusal_some : (e : Refusal) → number_of e ≡ 0 → ⊥
+pub refusal_some : (e : Refusal) → number_of e ≡ 0 → ⊥
 refusal_some WrongLength h = omega arith
 refusal_some WrongListLength h = omega arith
 refusal_some WrongCheck h = omega arith
