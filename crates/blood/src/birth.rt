@@ -25,6 +25,7 @@ const CORTICAL_RATIO: u64 = 789;
 const TENTHS: u64 = 10;
 
 // PB, in thousandths of µg/dL (B-7a).
+#[tactic(auto, unfolding(crate::specs::Birth::birth_blood))]
 fn birth_blood(mother: u64) -> u64
     requires { mother ≤ 100_000 }
     ensures { Is (birth_blood mother) 85_000 result }
@@ -33,21 +34,24 @@ fn birth_blood(mother: u64) -> u64
 }
 
 // The lead of an organ of this weight in g.
+#[tactic(auto, unfolding(crate::specs::Birth::birth_organ))]
 fn birth_organ(ratio: u64, blood: u64, weight: u64) -> u64
-    requires { (ratio ≤ 789) × (blood ≤ 85_000) × (weight ≤ 50_000) }
+    requires ratio { ratio ≤ 789 }
+    requires blood { blood ≤ 85_000 }
+    requires weight { weight ≤ 50_000 }
     ensures { result ≡ birth_organ ratio blood weight }
 {
     ratio * blood * weight / TENTHS
 }
 
 // A child at birth, from the book's row 0 and the mother's blood lead.
-pub fn birth_state(row: Row, mother: u64) -> State
-    requires { (RowLimits row) × (mother ≤ 100_000) }
-    ensures { result ≡ birth_state row mother }
+pub fn birth_state(row: &Row, mother: u64) -> State
+    requires row { RowLimits row.now }
+    requires mother { mother ≤ 100_000 }
+    ensures { result ≡ birth_state row.now mother }
 {
-    let rates = row.rates;
-    let out = rates.out[RED_CELLS];
-    let back = rates.back[RED_CELLS];
+    let out = row.rates.out[RED_CELLS];
+    let back = row.rates.back[RED_CELLS];
     let blood = birth_blood(mother);
     let total = blood * row.blood_volume;
     let plasma = total * back / (out + back);

@@ -13,15 +13,15 @@ use row::Row;
 const ECF_PERCENT: u64 = 73;
 
 // Blood lead, in thousandths of µg/dL.
-pub fn blood_figure(row: Row, state: State) -> u32
-    requires { (RowLimits row) × (burden state.lead ≤ burden_limit) }
-    ensures { Is (blood_of row state.lead) 50_000_000 result }
+pub fn blood_figure(row: &Row, state: &State) -> u32
+    requires row { RowLimits row.now }
+    requires burden { burden state.now.lead ≤ burden_limit }
+    ensures { Is (blood_of row.now state.now.lead) 50_000_000 result }
 {
     let volume = row.blood_volume;
     let plasma_volume = row.plasma_volume;
     let ecf_volume = ECF_PERCENT * volume / HUNDREDTHS;
-    let lead = state.lead;
-    let in_plasma = lead[PLASMA_AT] * plasma_volume / (ecf_volume + plasma_volume);
-    let figure = (lead[RED_CELLS_AT] + in_plasma) / volume;
+    let in_plasma = state.lead[PLASMA_AT] * plasma_volume / (ecf_volume + plasma_volume);
+    let figure = (state.lead[RED_CELLS_AT] + in_plasma) / volume;
     figure as u32
 }

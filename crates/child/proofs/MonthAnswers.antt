@@ -15,7 +15,9 @@ use Rattle.intake.specs.Intake.{intake_refusal}
 use Rattle.kinetics.specs.declared.State.{State}
 use Rattle.child.specs.declared.BirthAnswer.{BirthAnswer}
 use Rattle.child.specs.declared.MonthAnswer.{MonthAnswer}
-use Rattle.steps.specs.declared.Reached.{Reached}
+use Rattle.std.specs.Prelude.{Ok, Err}
+use Rattle.refusal.specs.declared.Refusal.{Refusal}
+use Rattle.refusal.specs.Refusal.{number_of}
 use Rattle.state.specs.State.{month_uptake_limit, state_refusal}
 use Rattle.steps.specs.Steps.{steps_a_day, days_a_month, days_shares}
 use Rattle.child.specs.Birth.{accepted_birth, refused_birth, birth_answer}
@@ -26,6 +28,7 @@ use Rattle.uptake.specs.Age.{age_of}
 use Rattle.uptake.specs.Laws.{day_limit}
 use Rattle.uptake.proofs.UptakeBounds.{age_law}
 use Rattle.steps.specs.Internal.{Steppable, ReachedBy}
+use Rattle.steps.proofs.Loops.{refusal_some}
 use Rattle.child.specs.Internal.{Decoded, stepped_month, MonthLimits, MonthGiven, exposed_month, given_month, month_from}
 use Rattle.state.proofs.SoundState.{passed_sound, passed_before}
 
@@ -79,14 +82,16 @@ month_limits d a passed given =
     rw (given.exposure_is, given.row_is, given.weight_is) (limits-at d (month_after a) (month_after_most a passed))
 
 -- by where its steps end
-module _ (s : ℕ) (rates : State → Rates) (a : State) (row : Row) (t : ℕ) (x : Reached) (r : ReachedBy rates a (days_shares s t days_a_month) (days_a_month * t) x) where
-  pub stepped_refused : (x.refusal ≡ 0 → ⊥) → refused_month x.refusal a ≡ stepped_month s rates a row t
+module _ (s : ℕ) (rates : State → Rates) (a : State) (row : Row) (t : ℕ) where
+  pub stepped_refused : (e : Refusal) → ReachedBy rates a (days_shares s t days_a_month) (days_a_month * t) (Err e)
+      → refused_month (number_of e) a ≡ stepped_month s rates a row t
   unfolding stepped_month
-  stepped_refused h = rw (← r.refused) (refused_answer x.refusal a _ h)
+  stepped_refused e r = rw (← r.refused) (refused_answer (number_of e) a _ (refusal_some e))
 
-  pub stepped_accepted : x.refusal ≡ 0 → accepted_month a x.state row ≡ stepped_month s rates a row t
+  pub stepped_accepted : (b : State) → ReachedBy rates a (days_shares s t days_a_month) (days_a_month * t) (Ok b)
+      → accepted_month a b row ≡ stepped_month s rates a row t
   unfolding stepped_month
-  stepped_accepted z = rw (sym r.refused ∙ z, ← r.reached z)
+  stepped_accepted b r = rw (sym r.refused, ← r.reached)
 
 module _ (s : ℕ) (a : State) (scenario : Scenario) (table : List ℕ) where
   -- refusals 20 and 21, and what follows

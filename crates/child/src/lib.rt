@@ -15,9 +15,11 @@ ghost use Rattle.child.specs.Internal.{Decoded, stepped_month, MonthLimits, expo
 
 use exposure::Exposure;
 use kinetics::State;
+use kinetics::divisor::MonthRates;
+use refusal::Refusal;
 use row::Row;
 use site::Scenario;
-use state::{BURDEN_MOST, BURDEN_TOO_LARGE};
+use state::BURDEN_MOST;
 
 pub mod courses; // courses.rt: a child's course up to a month
 pub mod months; // months.rt: the months of a run
@@ -65,12 +67,12 @@ pub fn born(scenario: Scenario, table: &[u32]) -> BirthAnswer
 {
     let row = row::table::row_at(table, 0);
     let mother = exposure::mother_of(scenario);
-    let child = blood::birth::birth_state(row, mother);
+    let child = blood::birth::birth_state(&row, mother);
     let held = state::capped_sum(&child.lead);
     if held > BURDEN_MOST {
         let zero = state::zero_state();
         return BirthAnswer {
-            refusal: BURDEN_TOO_LARGE,
+            refusal: Refusal::BurdenTooLarge.number(),
             state: zero,
         };
     }
@@ -96,7 +98,7 @@ fn accepted_month(state: State, last: State, row: Row) -> MonthAnswer
     requires { (state.month < last_month) × (burden last.lead ≤ burden_limit) × (RowLimits row) }
     ensures { result ≡ accepted_month state last row }
 {
-    let blood = blood::figure::blood_figure(row, last);
+    let blood = blood::figure::blood_figure(&row, &last);
     let month = state.month + 1;
     let lead = last.lead;
     let ledgers = last.ledgers;
@@ -117,15 +119,11 @@ fn stepped_month(state: State, row: Row, t: u64) -> MonthAnswer
     requires { (state_refusal state ≡ 0) × (RowLimits row) × (t ≤ day_limit) }
     ensures { result ≡ stepped_month steps_a_day (λ b. row.rates) state row t }
 {
-    let rates = row.rates;
-    let divisors = kinetics::divisor::divisors_of(rates);
-    let reached = steps::days::days(rates, divisors, state, STEPS_A_DAY, t);
-    let over = reached.refusal;
-    let last = reached.state;
-    if over != 0 {
-        return refused_month(over, state);
+    let rates = MonthRates::new(row.rates);
+    match steps::days::days(&rates, &state, STEPS_A_DAY, t) {
+        Ok(last) => accepted_month(state, last, row),
+        Err(refusal) => refused_month(refusal.number(), state),
     }
-    accepted_month(state, last, row)
 }
 
 // A month by its exposure, its row and the body weight that the saturation is given for, of a child whose state can have one.
@@ -147,7 +145,7 @@ fn given_month(state: State, exposure: Exposure, row: Row, weight24: u64) -> Mon
     requires { MonthLimits exposure row weight24 }
     ensures { result ≡ given_month steps_a_day state exposure row weight24 }
 {
-    let refusal = state::state_refusal(state);
+    let refusal = refusal::number_in(&state::check_state(&state));
     if refusal != 0 {
         return refused_month(refusal, state);
     }
@@ -172,7 +170,7 @@ pub fn child_month(state: State, scenario: Scenario, table: &[u32]) -> MonthAnsw
     requires { (length table.now ≡ table_numbers) × (Decoded scenario table.now) }
     ensures { result ≡ child_month steps_a_day state scenario table.now }
 {
-    let refusal = state::state_refusal(state);
+    let refusal = refusal::number_in(&state::check_state(&state));
     if refusal != 0 {
         return refused_month(refusal, state);
     }

@@ -1,4 +1,4 @@
--- The divisors of a month's rates, and the state after a step, put together from what the calls answer.
+-- The state after a step, put together from what the calls answer.
 -- Assumes nothing.
 use mathlib.Core.Path.{◌≡◌, ap, ◌∙◌}
 use mathlib.Core.List.{[], ◌∷◌}
@@ -8,24 +8,8 @@ use Rattle.numbers.specs.Sums.{sum_to}
 use Rattle.row.specs.declared.Rates.{Rates}
 use Rattle.row.specs.Row.{unit}
 use Rattle.kinetics.specs.declared.State.{State}
-use Rattle.kinetics.specs.Internal.{DivisorsOf}
-use Rattle.kinetics.specs.Step.{burden, liver, other, compartment_divisor, retained, divisor, solved_plasma, new_amount, urine_exit, compartment_exit, exits, new_plasma, next_lead, urine_ledger, faeces_ledger, skin_ledger, next}
-use Rattle.kinetics.proofs.Compartments.{at_six}
+use Rattle.kinetics.specs.Step.{burden, liver, other, solved_plasma, new_amount, urine_exit, compartment_exit, exits, new_plasma, next_lead, urine_ledger, faeces_ledger, skin_ledger, next}
 use Rattle.kinetics.proofs.Balance.{never_cut_off}
-
--- the divisors e1 to e6, and what is retained, k1 to k6
-pub divisors_are : (r : Rates) {e1 e2 e3 e4 e5 e6 k1 k2 k3 k4 k5 k6 : ℕ}
-    → e1 ≡ compartment_divisor r 0 → e2 ≡ compartment_divisor r 1 → e3 ≡ compartment_divisor r 2
-    → e4 ≡ compartment_divisor r 3 → e5 ≡ compartment_divisor r 4 → e6 ≡ compartment_divisor r 5
-    → k1 ≡ retained r 0 → k2 ≡ retained r 1 → k3 ≡ retained r 2 → k4 ≡ retained r 3 → k5 ≡ retained r 4 → k6 ≡ retained r 5
-    → DivisorsOf r
-    (record {
-      compartments = e1 ∷ e2 ∷ e3 ∷ e4 ∷ e5 ∷ e6 ∷ [];
-      plasma = unit + r.urine + k2 + k3 + k4 + k5 + k6 + k1;
-    })
-unfolding divisor sum_to
-divisors_are r d1 d2 d3 d4 d5 d6 h1 h2 h3 h4 h5 h6 =
-    record { compartments = at_six _ d1 d2 d3 d4 d5 d6; plasma = omega arith }
 
 -- what the calls of a step give: t all the lead there is, p, the new amounts m1 to m6, and the exits x, y and z
 pub record Parts (r : Rates) (s : State) (u : ℕ) : Type 0 where

@@ -2,21 +2,33 @@
 -- Assumes nothing.
 use mathlib.Core.Path.{◌≡◌, refl, ap, ap₂}
 use mathlib.Core.List.{List}
-use Prim.Native.Nat.{ℕ, ◌+◌, ◌-◌, ◌*◌, ◌/◌, ◌≤◌, ◌<◌}
+use Prim.Native.Nat.{ℕ, zero, suc, ◌+◌, ◌-◌, ◌*◌, ◌/◌, ◌≤◌, ◌<◌}
 use native.Mathlib.Nat.{mul-le-mul_left, mul-le-mul_right, mul-le-mul, mul_comm, div-mul-le_self, le_of_mul-le-mul_right}
+use native.Mathlib.Decide.{dec_lt}
 use native.Mathlib.Omega.{arith}
 use lib.ListN.{get_or}
+use Rattle.numbers.specs.Sums.{sum_to}
 use Rattle.numbers.proofs.Sums.{sum_le, sum_has}
 use Rattle.row.specs.declared.Rates.{Rates}
 use Rattle.row.specs.Row.{unit, out, back}
 use Rattle.row.specs.Limits.{RateLimits}
 use Rattle.kinetics.specs.declared.State.{State}
 use Rattle.kinetics.specs.declared.Divisors.{Divisors}
-use Rattle.kinetics.specs.Step.{amount, compartment_divisor, returned, retained, inflow, divisor, solved_plasma, new_amount, burden_limit}
+use Rattle.kinetics.specs.Step.{plasma, amount, compartment_divisor, returned, retained, inflow, divisor, solved_plasma, new_amount, burden_limit}
 use Rattle.numbers.specs.Bounds.{Is}
 use Rattle.numbers.proofs.Bounds.{is}
 use Rattle.kinetics.specs.Internal.{Ready}
 use Rattle.kinetics.proofs.DivisorMargin.{part_le, compartment_divisor_pos, back_le, retained_eq, divisor_pos}
+
+-- the first terms of a sum are at most the whole
+sum_front : (n : ℕ) (f : ℕ → ℕ) (i : ℕ) → i ≤ n → sum_to i f ≤ sum_to n f
+unfolding sum_to
+sum_front zero f i h = let none : i ≡ 0 = omega arith in rw none (omega arith)
+sum_front (suc n) f i h =
+    elim (dec_lt n i) [
+      | yes over ↦ let all : i ≡ suc n = omega arith in rw all (omega arith)
+      | no within ↦ omega (arith, sum_front n f i (omega arith))
+    ]
 
 half_le : (a b : ℕ) {e : ℕ} → 2 * b ≤ e → 0 < e → 2 * (a * b / e) ≤ a
 half_le a b {e} h pos = le_of_mul-le-mul_right (omega (arith, div-mul-le_self (a * b) e, mul-le-mul_left a h)) pos
@@ -72,6 +84,11 @@ module _ {r : Rates} {q : Divisors} {s : State} {u : ℕ} (ready : Ready r q s u
   unfolding inflow
   inflow_small =
       omega (arith, sum_le 6 (returned r s.lead) (amount s.lead) (λ i l. returned_le_amount r s.lead i), ready.room)
+
+  -- what there is with the returns of the first compartments
+  pub inflow_part : {i : ℕ} → i < 6 → plasma s.lead + u + sum_to (i + 1) (returned r s.lead) ≤ burden_limit
+  unfolding inflow
+  inflow_part {i} l = omega (arith, inflow_small, sum_front 6 (returned r s.lead) (i + 1) (omega arith))
 
   -- n is the inflow
   pub solved_plasma_is : {n : ℕ} → n ≡ inflow r s.lead u → n * unit / q.plasma ≡ solved_plasma r s.lead u

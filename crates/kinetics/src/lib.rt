@@ -1,10 +1,12 @@
 // The child's kinetics: one step of the seven compartments.
 #![tactic(auto)]
 
-pub mod divisor; // divisor.rt: the divisors of a month's rates
+pub mod divisor; // divisor.rt: a month's rates, with the divisors of its steps
 pub mod step; // step.rt: one step (B-8, B-9)
 
-// The six compartments beside plasma, in the rates' order.
+// The number of compartments beside plasma, and the six, in the rates' order.
+const COMPARTMENTS: usize = 6;
+
 pub const RED_CELLS: usize = 0;
 
 const LIVER: usize = 1;
@@ -32,7 +34,7 @@ const FAECES_AT: usize = 1;
 const SKIN_AT: usize = 2;
 
 // A child. Lead and ledgers are in pg.
-#[derive(Clone, Copy)]
+#[derive(Clone, Copy, Debug, Default, PartialEq, Eq)]
 pub struct State {
     pub month: u64,
     pub lead: [u64; 7], // plasma with ECF, red cells, liver, kidney, other, trabecular, cortical
@@ -40,7 +42,7 @@ pub struct State {
 }
 
 // The divisors of a month's rates, in units of 1/D, computed once for all its steps.
-#[derive(Clone, Copy)]
+#[derive(Clone, Copy, Debug, PartialEq, Eq)]
 pub struct Divisors {
     pub compartments: [u64; 6], // E1 to E6
     pub plasma: u64, // d

@@ -5,49 +5,20 @@ ghost use Rattle.kinetics.specs.Step.{burden, returned, inflow, solved_plasma, n
 ghost use Rattle.numbers.specs.Bounds.{Is};
 ghost use Rattle.kinetics.specs.Internal.{Ready};
 
+use super::divisor::MonthRates;
 use super::{
-    COMPARTMENTS_AT, CORTICAL, Divisors, FAECES_AT, KIDNEY, LIVER, OTHER, PLASMA_AT, RED_CELLS,
+    COMPARTMENTS, COMPARTMENTS_AT, CORTICAL, FAECES_AT, KIDNEY, LIVER, OTHER, PLASMA_AT, RED_CELLS,
     SKIN_AT, State, TRABECULAR, URINE_AT,
 };
-use row::{Rates, UNIT};
+use row::UNIT;
 
-// Point 1: what compartment i returns to the plasma.
-fn returned_at(rates: Rates, divisors: Divisors, state: State, u: u64, i: usize) -> u64
-    requires { (Ready rates divisors state u) × (i < 6) }
-    ensures { Is (returned rates state.lead i) burden_limit result }
-{
-    rates.back[i] * state.lead[i + COMPARTMENTS_AT] / divisors.compartments[i]
-}
-
-// Point 1: n.
-fn inflow_of(rates: Rates, divisors: Divisors, state: State, u: u64) -> u64
-    requires { Ready rates divisors state u }
-    ensures { Is (inflow rates state.lead u) burden_limit result }
-{
-    state.lead[PLASMA_AT]
-        + u
-        + returned_at(rates, divisors, state, u, RED_CELLS)
-        + returned_at(rates, divisors, state, u, LIVER)
-        + returned_at(rates, divisors, state, u, KIDNEY)
-        + returned_at(rates, divisors, state, u, OTHER)
-        + returned_at(rates, divisors, state, u, TRABECULAR)
-        + returned_at(rates, divisors, state, u, CORTICAL)
-}
-
-// Point 1: p (B-8).
-fn solved_plasma(rates: Rates, divisors: Divisors, state: State, u: u64) -> u64
-    requires { Ready rates divisors state u }
-    ensures { result ≡ solved_plasma rates state.lead u }
-{
-    inflow_of(rates, divisors, state, u) * UNIT / divisors.plasma
-}
-
-// Point 2: the new amount of compartment i (B-9).
-fn new_amount(rates: Rates, divisors: Divisors, state: State, u: u64, p: u64, i: usize) -> u64
-    requires { (Ready rates divisors state u) × (p ≡ solved_plasma rates state.lead u) × (i < 6) }
-    ensures { Is (new_amount rates state.lead (solved_plasma rates state.lead u) i) 150_000_000_000 result }
-{
-    (state.lead[i + COMPARTMENTS_AT] * UNIT + rates.out[i] * p) / divisors.compartments[i]
+// A step that can be taken: a month's rates, the child before it, and what it absorbs.
+#[derive(Clone, Copy)]
+struct Step<'a> {
+    month: &'a MonthRates,
+    state: &'a State,
+    uptake: u64,
+    ghost ready: { Ready month.now.rates month.now.divisors state.now uptake },
 }
 
 // Point 3: what leaves the body at a rate.
@@ -58,42 +29,88 @@ fn excreted(rate: u64, amount: u64) -> u64
     rate * amount / UNIT
 }
 
-// The seven compartments together.
-pub fn burden_of(state: State) -> u64
-    requires { burden state.lead ≤ burden_limit }
-    ensures { result ≡ burden state.lead }
-{
-    let m = state.lead;
-    m[0] + m[1] + m[2] + m[3] + m[4] + m[5] + m[6]
+impl Step<'_> {
+    // Point 1: what compartment i returns to the plasma.
+    fn returned(&self, i: usize) -> u64
+        requires { i < 6 }
+        ensures { Is (returned self.now.month.now.rates self.now.state.now.lead i) burden_limit result }
+    {
+        self.month.rates.back[i] * self.state.lead[i + COMPARTMENTS_AT]
+            / self.month.divisors.compartments[i]
+    }
+
+    // Point 1: n.
+    fn inflow(&self) -> u64
+        ensures { Is (inflow self.now.month.now.rates self.now.state.now.lead self.now.uptake) burden_limit result }
+    {
+        let mut inflow = self.state.lead[PLASMA_AT] + self.uptake;
+        for i in 0..COMPARTMENTS {
+            inflow += self.returned(i);
+        }
+        inflow
+    }
+
+    // Point 1: p (B-8).
+    fn solved_plasma(&self) -> u64
+        ensures { result ≡ solved_plasma self.now.month.now.rates self.now.state.now.lead self.now.uptake }
+    {
+        self.inflow() * UNIT / self.month.divisors.plasma
+    }
+
+    // Point 2: the new amount of compartment i (B-9).
+    fn new_amount(&self, p: u64, i: usize) -> u64
+        requires solved { p ≡ solved_plasma self.now.month.now.rates self.now.state.now.lead self.now.uptake }
+        requires within { i < 6 }
+        ensures { Is (new_amount self.now.month.now.rates self.now.state.now.lead (solved_plasma self.now.month.now.rates self.now.state.now.lead self.now.uptake) i) 150_000_000_000 result }
+    {
+        (self.state.lead[i + COMPARTMENTS_AT] * UNIT + self.month.rates.out[i] * p)
+            / self.month.divisors.compartments[i]
+    }
 }
 
-// One step that absorbs u.
-pub fn step(rates: Rates, divisors: Divisors, state: State, u: u64) -> State
-    requires { Ready rates divisors state u }
-    ensures { result ≡ next rates state u }
-{
-    let p = solved_plasma(rates, divisors, state, u);
-    let red_cells = new_amount(rates, divisors, state, u, p, RED_CELLS);
-    let liver = new_amount(rates, divisors, state, u, p, LIVER);
-    let kidney = new_amount(rates, divisors, state, u, p, KIDNEY);
-    let other = new_amount(rates, divisors, state, u, p, OTHER);
-    let trabecular = new_amount(rates, divisors, state, u, p, TRABECULAR);
-    let cortical = new_amount(rates, divisors, state, u, p, CORTICAL);
-    let urine = excreted(rates.urine, p);
-    let faeces = excreted(rates.faeces, liver);
-    let skin = excreted(rates.skin, other);
-    let amounts = red_cells + liver + kidney + other + trabecular + cortical;
-    let total = burden_of(state) + u;
-    let plasma = total - amounts - (urine + faeces + skin);
-    let ledgers = state.ledgers;
-    let urine_ledger = ledgers[URINE_AT] + urine;
-    let faeces_ledger = ledgers[FAECES_AT] + faeces;
-    let skin_ledger = ledgers[SKIN_AT] + skin;
-    State {
-        month: state.month,
-        lead: [
-            plasma, red_cells, liver, kidney, other, trabecular, cortical,
-        ],
-        ledgers: [urine_ledger, faeces_ledger, skin_ledger],
+impl State {
+    // The seven compartments together.
+    pub fn burden(&self) -> u64
+        requires { burden self.now.lead ≤ burden_limit }
+        ensures { result ≡ burden self.now.lead }
+    {
+        self.lead.iter().sum()
+    }
+}
+
+impl MonthRates {
+    // One step that absorbs this uptake.
+    pub fn step(&self, state: &State, uptake: u64) -> State
+        requires { Ready self.now.rates self.now.divisors state.now uptake }
+        ensures { result ≡ next self.now.rates state.now uptake }
+    {
+        let step = Step {
+            month: self,
+            state,
+            uptake,
+        };
+        let p = step.solved_plasma();
+        let red_cells = step.new_amount(p, RED_CELLS);
+        let liver = step.new_amount(p, LIVER);
+        let kidney = step.new_amount(p, KIDNEY);
+        let other = step.new_amount(p, OTHER);
+        let trabecular = step.new_amount(p, TRABECULAR);
+        let cortical = step.new_amount(p, CORTICAL);
+        let urine = excreted(self.rates.urine, p);
+        let faeces = excreted(self.rates.faeces, liver);
+        let skin = excreted(self.rates.skin, other);
+        let amounts = red_cells + liver + kidney + other + trabecular + cortical;
+        let total = state.burden() + uptake;
+        let plasma = total - amounts - (urine + faeces + skin);
+        let urine_ledger = state.ledgers[URINE_AT] + urine;
+        let faeces_ledger = state.ledgers[FAECES_AT] + faeces;
+        let skin_ledger = state.ledgers[SKIN_AT] + skin;
+        State {
+            month: state.month,
+            lead: [
+                plasma, red_cells, liver, kidney, other, trabecular, cortical,
+            ],
+            ledgers: [urine_ledger, faeces_ledger, skin_ledger],
+        }
     }
 }

@@ -1,4 +1,3 @@
 pub mod Row
 pub mod Limits
-pub mod Internal
 pub mod Laws

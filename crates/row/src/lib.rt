@@ -15,7 +15,7 @@ pub const LAST_MONTH: usize = 84;
 
 // A month's rates a step, in units of 1/D: from plasma to red cells, liver, kidney, other, trabecular and cortical bone, and to
 // urine; from these six back to plasma; from liver to faeces, and from other to skin, hair and nails.
-#[derive(Clone, Copy)]
+#[derive(Clone, Copy, Debug, PartialEq, Eq)]
 pub struct Rates {
     pub out: [u64; 6],
     pub urine: u64,
@@ -25,7 +25,7 @@ pub struct Rates {
 }
 
 // A month's row of the book.
-#[derive(Clone, Copy)]
+#[derive(Clone, Copy, Debug, PartialEq, Eq)]
 pub struct Row {
     pub blood_volume: u64, // thousandths of dL
     pub plasma_volume: u64, // thousandths of dL

@@ -11,50 +11,49 @@ fn row_numbers(table: &[u32], month: usize) -> [u64; places::ROW_NUMBERS]
 {
     let first = places::ROW_NUMBERS * month;
     let mut numbers = [0u64; places::ROW_NUMBERS];
-    let mut k: usize = 0;
-    while k < places::ROW_NUMBERS {
-        let number = table[first + k];
-        numbers[k] = number as u64;
-        k = k + 1;
+    for k in 0..places::ROW_NUMBERS {
+        numbers[k] = u64::from(table[first + k]);
     }
     numbers
 }
 
 // The row of 23 numbers.
-fn row_from(numbers: [u64; places::ROW_NUMBERS]) -> Row
-    ensures { result ≡ row_from numbers }
-{
-    let rates = Rates {
-        out: [
-            numbers[places::OUT],
-            numbers[places::OUT + 1],
-            numbers[places::OUT + 2],
-            numbers[places::OUT + 3],
-            numbers[places::OUT + 4],
-            numbers[places::OUT + 5],
-        ],
-        urine: numbers[places::URINE],
-        back: [
-            numbers[places::BACK],
-            numbers[places::BACK + 1],
-            numbers[places::BACK + 2],
-            numbers[places::BACK + 3],
-            numbers[places::BACK + 4],
-            numbers[places::BACK + 5],
-        ],
-        faeces: numbers[places::FAECES],
-        skin: numbers[places::SKIN],
-    };
-    Row {
-        blood_volume: numbers[places::BLOOD_VOLUME],
-        plasma_volume: numbers[places::PLASMA_VOLUME],
-        body_weight: numbers[places::BODY_WEIGHT],
-        kidney: numbers[places::KIDNEY_WEIGHT],
-        liver: numbers[places::LIVER_WEIGHT],
-        other: numbers[places::OTHER_WEIGHT],
-        trabecular: numbers[places::TRABECULAR_WEIGHT],
-        cortical: numbers[places::CORTICAL_WEIGHT],
-        rates,
+impl From<[u64; places::ROW_NUMBERS]> for Row {
+    ghost from_gives = { λ numbers row. row ≡ row_from numbers };
+
+    fn from(numbers: [u64; places::ROW_NUMBERS]) -> Row {
+        let rates = Rates {
+            out: [
+                numbers[places::OUT],
+                numbers[places::OUT + 1],
+                numbers[places::OUT + 2],
+                numbers[places::OUT + 3],
+                numbers[places::OUT + 4],
+                numbers[places::OUT + 5],
+            ],
+            urine: numbers[places::URINE],
+            back: [
+                numbers[places::BACK],
+                numbers[places::BACK + 1],
+                numbers[places::BACK + 2],
+                numbers[places::BACK + 3],
+                numbers[places::BACK + 4],
+                numbers[places::BACK + 5],
+            ],
+            faeces: numbers[places::FAECES],
+            skin: numbers[places::SKIN],
+        };
+        Row {
+            blood_volume: numbers[places::BLOOD_VOLUME],
+            plasma_volume: numbers[places::PLASMA_VOLUME],
+            body_weight: numbers[places::BODY_WEIGHT],
+            kidney: numbers[places::KIDNEY_WEIGHT],
+            liver: numbers[places::LIVER_WEIGHT],
+            other: numbers[places::OTHER_WEIGHT],
+            trabecular: numbers[places::TRABECULAR_WEIGHT],
+            cortical: numbers[places::CORTICAL_WEIGHT],
+            rates,
+        }
     }
 }
 
@@ -63,5 +62,5 @@ pub fn row_at(table: &[u32], month: usize) -> Row
     requires { numbers_a_row * month + numbers_a_row ≤ length table.now }
     ensures { result ≡ row_of table.now month }
 {
-    row_from(row_numbers(table, month))
+    Row::from(row_numbers(table, month))
 }

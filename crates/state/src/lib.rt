@@ -3,19 +3,14 @@
 
 ghost use Rattle.std.specs.Prelude.{◌≡◌, min, length, get_or};
 ghost use Rattle.numbers.specs.Sums.{sum_to};
-ghost use Rattle.state.specs.State.{state_refusal, zero_state};
+ghost use Rattle.refusal.specs.Refusal.{number_in};
+ghost use Rattle.kinetics.specs.Step.{burden};
+ghost use Rattle.state.specs.State.{ledger_sum, is_state, state_refusal, zero_state};
 ghost use Rattle.state.specs.Internal.{cap};
 
 use kinetics::State;
+use refusal::Refusal;
 use row::LAST_MONTH;
-
-// No state, and a state after which there is no month.
-const NO_STATE: u32 = 20;
-
-const LAST_MONTH_DONE: u32 = 21;
-
-// Burden, with the step's uptake, over its limit.
-pub const BURDEN_TOO_LARGE: u32 = 22;
 
 pub const BURDEN_MOST: u64 = 50_000_000_000; // pg
 
@@ -27,56 +22,59 @@ const MONTH_UPTAKE_MOST: u64 = 180_000_000_000; // pg, that a month can bring
 // Sums stop here, far above every limit and far below what 64 bits hold.
 const CAP: u64 = 0x4000_0000_0000_0000;
 
-fn capped(x: u64) -> u64
-    ensures { result ≡ min x cap }
-{
-    if x < CAP { x } else { CAP }
-}
-
 // The sum, or CAP if it is more.
 pub fn capped_sum(amounts: &[u64]) -> u64
     ensures { result ≡ min (sum_to (length amounts.now) (λ i. get_or amounts.now i 0)) cap }
 {
-    let mut sum: u64 = 0;
-    let mut i: usize = 0;
-    while i < amounts.len() {
-        let amount = amounts[i];
-        let next = capped(amount);
-        sum = capped(sum + next);
-        i = i + 1;
+    let mut sum = 0;
+    for amount in amounts {
+        sum = CAP.min(sum + CAP.min(*amount));
     }
     sum
 }
 
-// Refusals 20 and 21, or 0.
-pub fn state_refusal(state: State) -> u32
-    ensures { result ≡ state_refusal state }
+fn capped_burden(state: &State) -> u64
+    ensures { result ≡ min (burden state.now.lead) cap }
 {
-    let month = state.month;
-    if month > LAST_STATE_MONTH {
-        return NO_STATE;
+    capped_sum(&state.lead)
+}
+
+fn capped_ledgers(state: &State) -> u64
+    ensures { result ≡ min (ledger_sum state.now) cap }
+{
+    capped_sum(&state.ledgers)
+}
+
+// Are its month, its lead and its ledgers those of a state?
+#[tactic(auto, unfolding(crate::specs::State::is_state))]
+fn is_state(state: &State) -> bool
+    ensures { result ≡ is_state state.now }
+{
+    let held = capped_burden(state);
+    let left = capped_ledgers(state);
+    state.month <= LAST_STATE_MONTH
+        && held <= BURDEN_MOST
+        && held + left <= BURDEN_MOST + state.month * MONTH_UPTAKE_MOST
+}
+
+// Can a month follow? Else it is no state (20), or its last month is done (21).
+#[tactic(auto, unfolding(crate::specs::State::state_refusal, numbers::specs::Choice::unless))]
+pub fn check_state(state: &State) -> Result<(), Refusal>
+    ensures number { number_in result ≡ state_refusal state.now }
+{
+    if !is_state(state) {
+        return Err(Refusal::NoState);
     }
-    let held = capped_sum(&state.lead);
-    if held > BURDEN_MOST {
-        return NO_STATE;
+    if state.month == LAST_STATE_MONTH {
+        return Err(Refusal::LastMonthDone);
     }
-    let left = capped_sum(&state.ledgers);
-    if held + left > BURDEN_MOST + month * MONTH_UPTAKE_MOST {
-        return NO_STATE;
-    }
-    if month == LAST_STATE_MONTH {
-        return LAST_MONTH_DONE;
-    }
-    0
+    Ok(())
 }
 
 // The all-zero state.
+#[tactic(auto, unfolding(crate::specs::State::zero_state))]
 pub fn zero_state() -> State
     ensures { result ≡ zero_state }
 {
-    State {
-        month: 0,
-        lead: [0, 0, 0, 0, 0, 0, 0],
-        ledgers: [0, 0, 0],
-    }
+    State::default()
 }

@@ -18,11 +18,32 @@ use Rattle.kinetics.specs.Step.{burden, burden_limit, exits, exit_sum, next}
 use Rattle.kinetics.specs.Internal.{DivisorsOf, Ready}
 use Rattle.steps.proofs.ShareSum.{share_law}
 use Rattle.margin.proofs.StepLaws.{step_law}
-use Rattle.steps.specs.declared.Reached.{Reached}
+use Rattle.std.specs.Prelude.{Ok, Err}
+use Rattle.refusal.specs.declared.Refusal.{Refusal}
+use Rattle.refusal.specs.declared.Refusal.TheVariants.{WrongLength, WrongListLength, WrongCheck, WrongEdition, WrongNumber, ReservedNotZero, FieldOutsideLimits, RowOutsideLimits, IntakeTooLarge, SharesOver, AmountOver, WrongRow, NoState, LastMonthDone, BurdenTooLarge}
+use Rattle.refusal.specs.Refusal.{number_of}
 use Rattle.state.specs.State.{ledger_sum, month_uptake_limit, burden_refusal}
 use Rattle.steps.specs.Steps.{days_a_month, shares_from, day_shares, days_shares, last_from, steps_refusal}
 use Rattle.steps.specs.Internal.{Steppable, ReachedBy}
 use Rattle.steps.proofs.Shares.{sum_of, day_total, days_total}
+
+-- no refusal has the number 0
+pub refusal_some : (e : Refusal) → number_of e ≡ 0 → ⊥
+refusal_some WrongLength h = omega arith
+refusal_some WrongListLength h = omega arith
+refusal_some WrongCheck h = omega arith
+refusal_some WrongEdition h = omega arith
+refusal_some WrongNumber h = omega arith
+refusal_some ReservedNotZero h = omega arith
+refusal_some FieldOutsideLimits h = omega arith
+refusal_some RowOutsideLimits h = omega arith
+refusal_some IntakeTooLarge h = omega arith
+refusal_some SharesOver h = omega arith
+refusal_some AmountOver h = omega arith
+refusal_some WrongRow h = omega arith
+refusal_some NoState h = omega arith
+refusal_some LastMonthDone h = omega arith
+refusal_some BurdenTooLarge h = omega arith
 
 -- no lead is lost or made by a step
 pub step_conserves : (r : Rates) (a : State) (u : ℕ) → RateLimits r → burden (next r a u).lead + exit_sum (exits r a.lead u) ≡ burden a.lead + u
@@ -72,57 +93,54 @@ module _ (rates : State → Rates) where
   ahead_start : (a : State) (us : List ℕ) → burden a.lead ≤ burden_limit → Ahead a us a us
   ahead_start a us h = record { held = h; all = refl; refusal = refl; last = refl }
 
-  ahead_end : {a b : State} {us : List ℕ} → Ahead a us b [] → {t : ℕ} → sum_of us ≡ t → ReachedBy rates a us t (record { refusal = 0; state = b })
+  ahead_end : {a b : State} {us : List ℕ} → Ahead a us b [] → {t : ℕ} → sum_of us ≡ t → ReachedBy rates a us t (Ok b)
   unfolding steps_refusal last_from
   ahead_end now e =
       record {
         refused = sym now.refusal;
-        reached = λ z. sym now.last;
-        held = λ z. now.held;
-        total = λ z. omega (arith, now.all, e);
+        reached = sym now.last;
+        held = now.held;
+        total = omega (arith, now.all, e);
       }
 
   -- of refused steps nothing is claimed of the state
-  refused_steps : {a : State} {us : List ℕ} {t : ℕ} (x : Reached) → x.refusal ≡ steps_refusal rates a us → (x.refusal ≡ 0 → ⊥) → ReachedBy rates a us t x
-  refused_steps x e h = record { refused = e; reached = λ z. absurd (h z); held = λ z. absurd (h z); total = λ z. absurd (h z) }
+  refused_steps : {a : State} {us : List ℕ} {t : ℕ} {e : Refusal} → number_of e ≡ steps_refusal rates a us → ReachedBy rates a us t (Err e)
+  refused_steps e = record { refused = e; reached = tt; held = tt; total = tt }
 
-  -- a turn takes the steps vs, which absorb t and end at x
-  module _ {a b : State} {us : List ℕ} (vs ws : List ℕ) (now : Ahead a us b (vs ++ ws)) {t : ℕ} {x : Reached} (turn : ReachedBy rates b vs t x) where
-    turn_refusal : steps_refusal rates a us ≡ or_else x.refusal (steps_refusal rates (last_from rates b vs) ws)
-    turn_refusal =
+  -- a turn takes the steps vs, which absorb t; they are refused with e, or leave the state c
+  module _ {a b : State} {us : List ℕ} (vs ws : List ℕ) (now : Ahead a us b (vs ++ ws)) where
+    turn_refusal : {n : ℕ} → n ≡ steps_refusal rates b vs → steps_refusal rates a us ≡ or_else n (steps_refusal rates (last_from rates b vs) ws)
+    turn_refusal e =
         now.refusal
         ∙ refusal_append rates b vs ws
-        ∙ ap (λ (n : ℕ). or_else n (steps_refusal rates (last_from rates b vs) ws)) (sym turn.refused)
+        ∙ ap (λ (n : ℕ). or_else n (steps_refusal rates (last_from rates b vs) ws)) (sym e)
 
-    turn_refused : (x.refusal ≡ 0 → ⊥) → (n : ℕ) → ReachedBy rates a us n x
-    turn_refused z n = refused_steps x (sym (turn_refusal ∙ or_else_first x.refusal _ z)) z
+    turn_refused : {e : Refusal} {t : ℕ} → ReachedBy rates b vs t (Err e) → (n : ℕ) → ReachedBy rates a us n (Err e)
+    turn_refused {e} turn n = refused_steps (sym (turn_refusal turn.refused ∙ or_else_first (number_of e) _ (refusal_some e)))
 
-    turn_next : sum_of vs ≡ t → x.refusal ≡ 0 → Ahead a us x.state ws
-    turn_next e z =
+    turn_next : {c : State} {t : ℕ} → ReachedBy rates b vs t (Ok c) → sum_of vs ≡ t → Ahead a us c ws
+    turn_next turn e =
         record {
-          held = turn.held z;
-          all = omega (arith, now.all, turn.total z, e, total_append (λ (u : ℕ). u) vs ws);
-          refusal =
-              turn_refusal
-              ∙ ap (λ (n : ℕ). or_else n (steps_refusal rates (last_from rates b vs) ws)) z
-              ∙ ap (λ (c : State). steps_refusal rates c ws) (sym (turn.reached z));
-          last = now.last ∙ last-append rates b vs ws ∙ ap (λ (c : State). last_from rates c ws) (sym (turn.reached z));
+          held = turn.held;
+          all = omega (arith, now.all, turn.total, e, total_append (λ (u : ℕ). u) vs ws);
+          refusal = turn_refusal turn.refused ∙ ap (λ (c : State). steps_refusal rates c ws) (sym turn.reached);
+          last = now.last ∙ last-append rates b vs ws ∙ ap (λ (c : State). last_from rates c ws) (sym turn.reached);
         }
 
   -- one step that absorbs u, by its test
   module _ (b : State) (u : ℕ) where
-    step_refused : burden_limit < burden b.lead + u → ReachedBy rates b (u ∷ []) u (record { refusal = 22; state = b })
+    step_refused : burden_limit < burden b.lead + u → ReachedBy rates b (u ∷ []) u (Err BurdenTooLarge)
     unfolding steps_refusal unless
-    step_refused over = refused_steps _ (rw (lt-leb (burden b.lead + u) burden_limit over)) (λ z. omega arith)
+    step_refused over = refused_steps (rw (lt-leb (burden b.lead + u) burden_limit over))
 
-    step_taken : RateLimits (rates b) → burden b.lead + u ≤ burden_limit → ReachedBy rates b (u ∷ []) u (record { refusal = 0; state = next (rates b) b u })
+    step_taken : RateLimits (rates b) → burden b.lead + u ≤ burden_limit → ReachedBy rates b (u ∷ []) u (Ok (next (rates b) b u))
     unfolding steps_refusal last_from unless
     step_taken limits fits =
         record {
           refused = rw (le-leb (burden b.lead + u) burden_limit fits);
-          reached = λ z. refl;
-          held = λ z. omega (arith, step_conserves (rates b) b u limits);
-          total = λ z. account_next (rates b) b u limits;
+          reached = refl;
+          held = omega (arith, step_conserves (rates b) b u limits);
+          total = account_next (rates b) b u limits;
         }
 
 -- a day of s steps from a that absorb t
@@ -136,7 +154,7 @@ module _ {rates : State → Rates} {a : State} {s t more : ℕ} (steppable : Ste
     unfolding shares_from
     no_share_ahead h = let e : s - k ≡ 0 = omega arith in rw e at now
 
-    pub day_end : s ≤ k → ReachedBy rates a (day_shares s t) t (record { refusal = 0; state = b })
+    pub day_end : s ≤ k → ReachedBy rates a (day_shares s t) t (Ok b)
     day_end h = ahead_end rates (no_share_ahead h) (day_total s t steppable.some)
 
     -- held and u as the code computes them
@@ -150,8 +168,8 @@ module _ {rates : State → Rates} {a : State} {s t more : ℕ} (steppable : Ste
       pub day_sum_fits : held + u ≤ burden_limit + 6_000_000_000
       day_sum_fits = omega (arith, now.held, eh, eu, (share_law s t steppable.some).each k h, steppable.daily)
 
-      pub day_refused : burden_limit < held + u → ReachedBy rates a (day_shares s t) t (record { refusal = 22; state = b })
-      day_refused over = turn_refused rates (u ∷ []) _ share_ahead (step_refused rates b u (omega (arith, eh))) (λ z. omega arith) t
+      pub day_refused : burden_limit < held + u → ReachedBy rates a (day_shares s t) t (Err BurdenTooLarge)
+      day_refused over = turn_refused rates (u ∷ []) _ share_ahead (step_refused rates b u (omega (arith, eh))) t
 
       pub day_ready : {q : Divisors} → DivisorsOf (rates b) q → 6_000_000_000 ≤ more → held + u ≤ burden_limit → Ready (rates b) q b u
       day_ready divisors enough fits =
@@ -168,7 +186,7 @@ module _ {rates : State → Rates} {a : State} {s t more : ℕ} (steppable : Ste
           }
 
       pub day_next : held + u ≤ burden_limit → (c : State) → c ≡ next (rates b) b u → Ahead rates a (day_shares s t) c (shares_from s t (k + 1) (s - (k + 1)))
-      day_next fits c e = rw e (turn_next rates (u ∷ []) _ share_ahead (step_taken rates b u (steppable.limits b) (omega (arith, eh))) (omega arith) refl)
+      day_next fits c e = rw e (turn_next rates (u ∷ []) _ share_ahead (step_taken rates b u (steppable.limits b) (omega (arith, eh))) (omega arith))
 
 -- a month of thirty such days
 module _ {rates : State → Rates} {a : State} {s t : ℕ} (steppable : Steppable rates a s t month_uptake_limit) where
@@ -181,7 +199,7 @@ module _ {rates : State → Rates} {a : State} {s t : ℕ} (steppable : Steppabl
     unfolding days_shares
     no_day_ahead h = let e : days_a_month - d ≡ 0 = omega arith in rw e
 
-    pub month_end_lem : days_a_month ≤ d → ReachedBy rates a (days_shares s t days_a_month) (days_a_month * t) (record { refusal = 0; state = b })
+    pub month_end_lem : days_a_month ≤ d → ReachedBy rates a (days_shares s t days_a_month) (days_a_month * t) (Ok b)
     month_end_lem h = ahead_end rates (rw (no_day_ahead h) at now) (days_total s t steppable.some days_a_month)
 
     module _ (h : d < days_a_month) where
@@ -215,10 +233,9 @@ module _ {rates : State → Rates} {a : State} {s t : ℕ} (steppable : Steppabl
                 );
           }
 
-      -- x is where the day that starts at b ends
-      module _ {x : Reached} (day : ReachedBy rates b (day_shares s t) t x) where
-        pub month_refused : (x.refusal ≡ 0 → ⊥) → ReachedBy rates a (days_shares s t days_a_month) (days_a_month * t) x
-        month_refused z = turn_refused rates (day_shares s t) later day_ahead day z (days_a_month * t)
+      -- the day that starts at b is refused with e, or leaves the state c
+      pub month_refused : {e : Refusal} → ReachedBy rates b (day_shares s t) t (Err e) → ReachedBy rates a (days_shares s t days_a_month) (days_a_month * t) (Err e)
+      month_refused day = turn_refused rates (day_shares s t) later day_ahead day (days_a_month * t)
 
-        pub month_next : x.refusal ≡ 0 → Ahead rates a (days_shares s t days_a_month) x.state later
-        month_next = turn_next rates (day_shares s t) later day_ahead day (day_total s t steppable.some)
+      pub month_next : {c : State} → ReachedBy rates b (day_shares s t) t (Ok c) → Ahead rates a (days_shares s t days_a_month) c later
+      month_next day = turn_next rates (day_shares s t) later day_ahead day (day_total s t steppable.some)

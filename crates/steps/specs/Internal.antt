@@ -1,12 +1,13 @@
 -- For the contracts between the functions: what steps need, and their end. No open call's contract needs it.
 -- Assumes nothing.
-use Rattle.std.specs.Prelude.{◌≡◌, ℕ, ◌^◌, ◌+◌, ◌≤◌, ◌<◌, List}
+use Rattle.std.specs.Prelude.{◌≡◌, ℕ, ◌^◌, ◌+◌, ◌≤◌, ◌<◌, List, Result, IfOk}
+use Rattle.refusal.specs.declared.Refusal.{Refusal}
+use Rattle.refusal.specs.Refusal.{number_in}
 use Rattle.row.specs.declared.Rates.{Rates}
 use Rattle.row.specs.Limits.{RateLimits}
 use Rattle.kinetics.specs.declared.State.{State}
 use Rattle.kinetics.specs.Step.{burden, burden_limit}
 use Rattle.state.specs.State.{ledger_sum}
-use Rattle.steps.specs.declared.Reached.{Reached}
 use Rattle.steps.specs.Steps.{last_from, steps_refusal}
 
 -- s steps a day that absorb t a day can be taken from a: the rates of each state are within their limits, and the ledgers have room for `more`
@@ -18,9 +19,9 @@ pub record Steppable (rates : State → Rates) (a : State) (s t more : ℕ) : Ty
   pub held : burden a.lead ≤ burden_limit
   pub room : burden a.lead + ledger_sum a + more ≤ 2 ^ 62
 
--- x is where steps from a that absorb us, t in all, end
-pub record ReachedBy (rates : State → Rates) (a : State) (us : List ℕ) (t : ℕ) (x : Reached) : Type 0 where
-  pub refused : x.refusal ≡ steps_refusal rates a us
-  pub reached : x.refusal ≡ 0 → x.state ≡ last_from rates a us
-  pub held : x.refusal ≡ 0 → burden x.state.lead ≤ burden_limit
-  pub total : x.refusal ≡ 0 → burden x.state.lead + ledger_sum x.state ≡ burden a.lead + ledger_sum a + t
+-- x is where steps from a that absorb us, t in all, end: the state that they left, or why one is refused
+pub record ReachedBy (rates : State → Rates) (a : State) (us : List ℕ) (t : ℕ) (x : Result State Refusal) : Type 0 where
+  pub refused : number_in x ≡ steps_refusal rates a us
+  pub reached : IfOk x (λ b. b ≡ last_from rates a us)
+  pub held : IfOk x (λ b. burden b.lead ≤ burden_limit)
+  pub total : IfOk x (λ b. burden b.lead + ledger_sum b ≡ burden a.lead + ledger_sum a + t)

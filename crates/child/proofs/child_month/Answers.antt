@@ -8,10 +8,10 @@ pub returns-then-refusal-ne0 : goal.returns-then-refusal-ne0
 returns-then-refusal-ne0 c =
     let a = c.args in
     c.refused_month.ensures
-    ∙ child_refused steps_a_day a.state a.scenario a.table.now c.state_refusal-refusal.result c.state_refusal-refusal.ensures c.if-refusal-ne0.true
+    ∙ child_refused steps_a_day a.state a.scenario a.table.now c.number_in-refusal.result (c.number_in-refusal.ensures ∙ c.check_state.ensures.number) c.if-refusal-ne0.true
 
 pub returns : goal.returns
 returns c =
     let a = c.args in
     c.month_after.ensures
-    ∙ child_passed steps_a_day a.state a.scenario a.table.now (sym c.state_refusal-refusal.ensures ∙ c.if-refusal-ne0.false)
+    ∙ child_passed steps_a_day a.state a.scenario a.table.now (sym (c.number_in-refusal.ensures ∙ c.check_state.ensures.number) ∙ c.if-refusal-ne0.false)

@@ -8,10 +8,10 @@ pub returns-then-refusal-ne0 : goal.returns-then-refusal-ne0
 returns-then-refusal-ne0 c =
     let a = c.args in
     c.refused_month.ensures
-    ∙ given_refused steps_a_day a.state a.exposure a.row a.weight24 c.state_refusal-refusal.result c.state_refusal-refusal.ensures c.if-refusal-ne0.true
+    ∙ given_refused steps_a_day a.state a.exposure a.row a.weight24 c.number_in-refusal.result (c.number_in-refusal.ensures ∙ c.check_state.ensures.number) c.if-refusal-ne0.true
 
 pub returns : goal.returns
 returns c =
     let a = c.args in
     c.exposed_month.ensures
-    ∙ given_passed steps_a_day a.state a.exposure a.row a.weight24 (sym c.state_refusal-refusal.ensures ∙ c.if-refusal-ne0.false)
+    ∙ given_passed steps_a_day a.state a.exposure a.row a.weight24 (sym (c.number_in-refusal.ensures ∙ c.check_state.ensures.number) ∙ c.if-refusal-ne0.false)

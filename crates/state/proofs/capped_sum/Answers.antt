@@ -1,19 +1,12 @@
 -- `state::capped_sum` meets its contract: the capped sum so far is that of the amounts passed.
-use Prim.Native.Nat.{ℕ}
-use mathlib.Core.Path.{refl}
-use mathlib.Core.List.{List}
-use native.Mathlib.Omega.{arith}
-use lib.ListN.{get_or}
+use Rattle.std.proofs.Common.{arith, get_or}
 use Rattle.numbers.specs.Sums.{sum_to}
-use Rattle.state.proofs.StateCheck.{cap-next}
+use Rattle.numbers.proofs.Sums.{sum-next}
 use Rattle.state.proofs.capped_sum.Goals as goal
 
-abbrev amount_at : List ℕ → ℕ → ℕ
-amount_at amounts i = get_or amounts i 0
-
-pub loop-i-init : goal.loop-i-init
+pub loop-amount-init : goal.loop-amount-init
 unfolding sum_to
-loop-i-init c = (omega arith, refl)
+loop-amount-init c = omega arith
 
-pub loop-i-preserved : goal.loop-i-preserved
-loop-i-preserved c = (omega arith, cap-next (amount_at c.args.amounts.now) c.loop-i.i c.loop-i.invariant.1 c.capped-next.ensures c.capped-sum.ensures)
+pub loop-amount-preserved : goal.loop-amount-preserved
+loop-amount-preserved c = omega (arith, sum-next c.loop-amount.amount-index (λ i. get_or c.args.amounts.now i 0))

@@ -1,17 +1,8 @@
 -- `state::capped_sum` meets its contract: the capped sum so far is that of the amounts passed.
-use Prim.Native.Nat.{ℕ, ◌-◌, ◌≤◌, min}
-use mathlib.Core.Path.{◌≡◌}
-use mathlib.Core.List.{List}
-use lib.ListN.{length, get_or}
+use Rattle.std.proofs.Common.{◌≡◌, min, get_or}
 use Rattle.numbers.specs.Sums.{sum_to}
 use Rattle.state.specs.Internal.{cap}
 use Rattle.state.proofs.capped_sum.Given as goal
 
-abbrev amount_at : List ℕ → ℕ → ℕ
-amount_at amounts i = get_or amounts i 0
-
-abbrev pub invariant-loop-i : goal.invariant-loop-i
-invariant-loop-i l = (l.i ≤ length l.amounts) × (l.sum ≡ min (sum_to l.i (amount_at l.amounts)) cap)
-
-abbrev pub decreases-loop-i : goal.decreases-loop-i
-decreases-loop-i l = length l.amounts - l.i
+abbrev pub invariant-loop-amount : goal.invariant-loop-amount
+invariant-loop-amount l = l.sum ≡ min (sum_to l.amount-index (λ i. get_or l.amounts i 0)) cap

@@ -8,12 +8,12 @@ use Rattle.blood.proofs.figure.blood_figure.Goals as goal
 
 pub overflow_add-figure : goal.overflow_add-figure
 unfolding ecf_volume plasma_part
-overflow_add-figure c = omega (arith, blood_lead_le c.args.state.lead c.requires.0 c.requires.1)
+overflow_add-figure c = omega (arith, blood_lead_le c.args.state.now.lead c.requires.row c.requires.burden)
 
 pub overflow_cast-result : goal.overflow_cast-result
 unfolding ecf_volume plasma_part blood_of
-overflow_cast-result c = omega (arith, blood_law c.args.row c.args.state.lead c.requires.0 c.requires.1)
+overflow_cast-result c = omega (arith, blood_law c.args.row.now c.args.state.now.lead c.requires.row c.requires.burden)
 
 pub returns : goal.returns
 unfolding ecf_volume plasma_part blood_of
-returns c = is refl (blood_law c.args.row c.args.state.lead c.requires.0 c.requires.1)
+returns c = is refl (blood_law c.args.row.now c.args.state.now.lead c.requires.row c.requires.burden)

@@ -5,7 +5,4 @@ use Rattle.steps.proofs.Loops.{Ahead}
 use Rattle.steps.proofs.days.day.Given as goal
 
 abbrev pub invariant-loop-k : goal.invariant-loop-k
-invariant-loop-k l = Ahead (λ b. l.rates) l.initial.here (day_shares l.s l.t) l.here (shares_from l.s l.t l.k (l.s - l.k))
-
-abbrev pub decreases-loop-k : goal.decreases-loop-k
-decreases-loop-k l = l.s - l.k
+invariant-loop-k l = Ahead (λ b. l.rates.rates) l.initial.here (day_shares l.s l.t) l.here (shares_from l.s l.t l.k (l.s - l.k))

@@ -1,17 +1,19 @@
 -- `steps::days::days` meets its contract: at day d the days from d on are left.
+use Rattle.std.proofs.Common.{◌≡◌, Err, rules}
 use Rattle.steps.proofs.Loops.{day_steppable, month_refused, month_next, month_end_lem}
 use Rattle.steps.proofs.days.days.Goals as goal
 
-pub day-reached-requires : goal.day-reached-requires
-day-reached-requires c =
-    let pre = c.requires in
-    (pre.0, day_steppable pre.1 c.loop-d.d c.loop-d.invariant c.loop-d-test.true)
+pub day-requires : goal.day-requires
+day-requires c = day_steppable c.requires c.loop-d.d c.loop-d.invariant c.loop-d-test.true
 
-pub returns-then-reached-ne0 : goal.returns-then-reached-ne0
-returns-then-reached-ne0 c = month_refused c.requires.1 c.loop-d.d c.loop-d.invariant c.loop-d-test.true c.day-reached.ensures c.if-reached-ne0.true
+pub returns-in_err-here : goal.returns-in_err-here
+returns-in_err-here c =
+    let refused : c.from_residual.result ≡ Err c.in_err-here.field-0.0 = search rules in
+    rw refused (month_refused c.requires c.loop-d.d c.loop-d.invariant c.loop-d-test.true (rw c.in_err-here.was at c.day.ensures))
 
 pub loop-d-preserved : goal.loop-d-preserved
-loop-d-preserved c = month_next c.requires.1 c.loop-d.d c.loop-d.invariant c.loop-d-test.true c.day-reached.ensures c.if-reached-ne0.false
+loop-d-preserved c =
+    month_next c.requires c.loop-d.d c.loop-d.invariant c.loop-d-test.true (rw c.in_ok-here.was at c.day.ensures)
 
 pub returns : goal.returns
-returns c = month_end_lem c.requires.1 c.loop-d.d c.loop-d.invariant c.loop-d-test.false
+returns c = month_end_lem c.requires c.loop-d.d c.loop-d.invariant c.loop-d-test.false

@@ -5,7 +5,4 @@ use Rattle.steps.proofs.Loops.{Ahead}
 use Rattle.steps.proofs.days.days.Given as goal
 
 abbrev pub invariant-loop-d : goal.invariant-loop-d
-invariant-loop-d l = Ahead (λ b. l.rates) l.initial.here (days_shares l.s l.t days_a_month) l.here (days_shares l.s l.t (days_a_month - l.d))
-
-abbrev pub decreases-loop-d : goal.decreases-loop-d
-decreases-loop-d l = days_a_month - l.d
+invariant-loop-d l = Ahead (λ b. l.rates.rates) l.initial.here (days_shares l.s l.t days_a_month) l.here (days_shares l.s l.t (days_a_month - l.d))

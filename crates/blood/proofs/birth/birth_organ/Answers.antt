@@ -1,8 +1,0 @@
--- `blood::birth::birth_organ` meets its contract: the products fit.
-use mathlib.Core.Path.{refl}
-use Rattle.blood.specs.Birth.{birth_organ}
-use Rattle.blood.proofs.birth.birth_organ.Goals as goal
-
-pub returns : goal.returns
-unfolding birth_organ
-returns c = refl

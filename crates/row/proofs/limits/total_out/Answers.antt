@@ -1,8 +1,0 @@
--- `row::limits::total_out` meets its contract: seven 32-bit rates, summed.
-use native.Mathlib.Omega.{arith}
-use Rattle.numbers.specs.Sums.{sum_to}
-use Rattle.row.proofs.limits.total_out.Goals as goal
-
-pub returns : goal.returns
-unfolding sum_to
-returns c = omega arith
