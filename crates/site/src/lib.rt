@@ -25,14 +25,14 @@ const SITE_FORM: Form = Form {
 };
 
 // Where the dust figure comes from: given, or from soil and air by the multiple source formula.
-#[derive(Clone, Copy)]
+#[derive(Clone, Copy, Debug, PartialEq, Eq)]
 pub enum DustSource {
     Given,
     MultipleSource,
 }
 
 // Where the water concentration comes from: one constant figure, or flushed, first draw and fountain by their shares.
-#[derive(Clone, Copy)]
+#[derive(Clone, Copy, Debug, PartialEq, Eq)]
 pub enum WaterSource {
     Constant,
     ThreeSources,
