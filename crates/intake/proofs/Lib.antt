@@ -1,3 +1,2 @@
-pub mod BySource
 pub mod Fits
 pub mod Refusal9
