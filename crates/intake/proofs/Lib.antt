@@ -1,2 +1,3 @@
 pub mod Fits
 pub mod Refusal9
+pub mod Refused
