@@ -1,5 +1,5 @@
 -- `routes::exposed_sums` meets its contract: zeros if its intakes are refused, else the sums of the day's routes.
-use mathlib.Core.Path.{◌≡◌, refl, sym, ap, ◌∙◌}
+use mathlib.Core.Path.{◌≡◌, sym, ap, ◌∙◌}
 use Rattle.exposure.specs.declared.limited.LimitedExposure.{LimitedExposure}
 use Rattle.intake.proofs.Refused.{number_some}
 use Rattle.uptake.specs.Routes.{day_routes}

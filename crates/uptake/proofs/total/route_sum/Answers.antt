@@ -1,5 +1,5 @@
 -- `uptake::total::route_sum` meets its contract: the sum of five parts.
-use mathlib.Core.Path.{◌≡◌, sym, ◌∙◌}
+use mathlib.Core.Path.{◌≡◌, ◌∙◌}
 use Prim.Native.Nat.{◌≤◌}
 use borrow.Author.Rules.{rules}
 use lib.ListN.{length}
