@@ -14,12 +14,15 @@ ghost use Rattle.child.specs.Month.{refused_month, accepted_month, child_month};
 ghost use Rattle.child.specs.Internal.{Decoded, stepped_month, MonthLimits, exposed_month, given_month, month_from};
 
 use exposure::Exposure;
+use exposure::limited::LimitedExposure;
+use intake::passed::PassedIntakes;
 use kinetics::State;
 use kinetics::divisor::MonthRates;
 use refusal::Refusal;
 use row::Row;
 use site::Scenario;
 use state::BURDEN_MOST;
+use uptake::weights::BodyWeights;
 
 pub mod courses; // courses.rt: a child's course up to a month
 pub mod months; // months.rt: the months of a run
@@ -66,7 +69,7 @@ pub fn born(scenario: Scenario, table: &[u32]) -> BirthAnswer
     ensures { result ≡ birth_answer (newborn_refusal scenario table.now) (newborn scenario table.now) }
 {
     let row = row::table::row_at(table, 0);
-    let mother = exposure::mother_of(scenario);
+    let mother = exposure::mother_of(&scenario);
     let child = blood::birth::birth_state(&row, mother);
     let held = state::capped_sum(&child.lead);
     if held > BURDEN_MOST {
@@ -131,13 +134,18 @@ fn exposed_month(state: State, exposure: Exposure, row: Row, weight24: u64) -> M
     requires { (state_refusal state ≡ 0) × (MonthLimits exposure row weight24) }
     ensures { result ≡ exposed_month steps_a_day state exposure row weight24 }
 {
-    let intakes = intake::intakes_of(exposure);
-    let refusal = intake::intake_refusal(intakes);
-    if refusal != 0 {
-        return refused_month(refusal, state);
+    let limited = LimitedExposure { exposure };
+    let weights = BodyWeights {
+        month: row.body_weight,
+        month24: weight24,
+    };
+    match PassedIntakes::new(&limited) {
+        Ok(passed) => {
+            let t = uptake::day::day_uptake(&passed, weights);
+            stepped_month(state, row, t)
+        }
+        Err(refusal) => refused_month(refusal.number(), state),
     }
-    let t = uptake::day::day_uptake(exposure, intakes, row.body_weight, weight24);
-    stepped_month(state, row, t)
 }
 
 // A month by its exposure, its row and that body weight: refusals 20, 21, 9, 22.
@@ -159,7 +167,7 @@ fn month_after(state: State, scenario: Scenario, table: &[u32]) -> MonthAnswer
 {
     let month = state.month + 1;
     let age = uptake::age::age_of(month);
-    let exposure = exposure::exposure_at(scenario, age as usize);
+    let exposure = exposure::exposure_at(&scenario, age as usize);
     let row = row::table::row_at(table, month as usize);
     let row24 = row::table::row_at(table, SATURATION_MONTH);
     exposed_month(state, exposure, row, row24.body_weight)

@@ -122,7 +122,7 @@ fn courses_of(scenario: Scenario, table: &[u32], roll: &[u32], count: usize) -> 
     while done < last {
         let month = done + 1;
         let age = uptake::age::age_of(month);
-        let exposure = exposure::exposure_at(scenario, age as usize);
+        let exposure = exposure::exposure_at(&scenario, age as usize);
         let row = row::table::row_at(table, month as usize);
         let mut i: usize = 0;
         while i < count {

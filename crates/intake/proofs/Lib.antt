@@ -1,3 +1,3 @@
-pub mod BySource
 pub mod Fits
 pub mod Refusal9
+pub mod Refused

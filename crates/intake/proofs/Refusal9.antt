@@ -5,7 +5,6 @@ use mathlib.Core.Bool.{Bool, true, false}
 use mathlib.Core.List.{List, [], ◌∷◌}
 use Prim.Native.Nat.{ℕ, ◌≤◌, ◌<◌}
 use native.Mathlib.Omega.{arith}
-use lib.ListN.{drop}
 use borrow.Author.Tests.{le-leb, leb-true}
 use Rattle.numbers.specs.Choice.{unless}
 use Rattle.numbers.proofs.Every.{all_of, and_true, and_both}
@@ -18,8 +17,8 @@ use Rattle.intake.specs.declared.Intakes.{Intakes}
 use Rattle.intake.specs.Intake.{air_intake, diet_medium, water_medium, dust_medium, soil_medium, intakes_of, intake_of, intake_fits, refusal_of, intake_refusal}
 use Rattle.intake.specs.Laws.{Passed, NineLaw, FourAlone}
 
--- the tests of the intakes, in their order, and those that are left after the first k
-abbrev pub intake_tests : Intakes → List Bool
+-- the tests of the intakes, in their order
+abbrev intake_tests : Intakes → List Bool
 intake_tests i =
     intake_fits i.air
     ∷ intake_fits (at i.media water_medium)
@@ -28,11 +27,8 @@ intake_tests i =
     ∷ intake_fits (at i.media diet_medium)
     ∷ []
 
-abbrev pub TestsLeft : ℕ → Intakes → Type 0
-TestsLeft k i = all_of (drop k (intake_tests i)) ≡ all_of (intake_tests i)
-
 -- they decide the refusal
-pub refusal_by_tests : (i : Intakes) {t : Bool} → t ≡ all_of (intake_tests i) → unless t 9 ≡ refusal_of i
+refusal_by_tests : (i : Intakes) {t : Bool} → t ≡ all_of (intake_tests i) → unless t 9 ≡ refusal_of i
 unfolding refusal_of
 refusal_by_tests i e = rw e
 

@@ -2,12 +2,16 @@
 #![tactic(auto)]
 
 ghost use Rattle.std.specs.Prelude.{◌≡◌};
-ghost use Rattle.exposure.specs.Limits.{ExposureLimits};
 ghost use Rattle.intake.specs.Intake.{air_intake, mixed_water, water_intake, soil_intake, dust_concentration, dust_intake, intakes_of, refusal_of};
 ghost use Rattle.numbers.specs.Bounds.{Is};
+ghost use Rattle.refusal.specs.Refusal.{number_in};
 
-use exposure::Exposure;
+use exposure::MEDIA;
+use exposure::limited::LimitedExposure;
+use refusal::Refusal;
 use site::{DustSource, WaterSource};
+
+pub mod passed; // passed.rt: an exposure with its intakes, which 9 lets pass
 
 // A whole, in percent or hundredths.
 pub const HUNDREDTHS: u64 = 100;
@@ -22,130 +26,114 @@ const THOUSANDTHS_A_HUNDREDTH: u64 = 10;
 
 const INTAKE_MOST: u64 = 1_000_000_000; // pg/day, of air, water, soil, dust and diet
 
-const INTAKE_TOO_LARGE: u32 = 9; // refusal
-
-const DIET_MEDIUM: usize = 0; // its place in the eaten media, as of the next three
-
-const WATER_MEDIUM: usize = 1;
-
-const DUST_MEDIUM: usize = 2;
-
-const SOIL_MEDIUM: usize = 3;
-
-// What is taken in, in pg a day: in the air breathed, and in the five eaten media.
-#[derive(Clone, Copy)]
+// What is taken in, in pg a day: in the air breathed, and in the eaten media.
+#[derive(Clone, Copy, Debug, PartialEq, Eq)]
 pub struct Intakes {
     pub air: u64,
-    pub media: [u64; 5], // diet, water, dust, soil, alternate
+    pub media: [u64; MEDIA],
+}
+
+impl Intakes {
+    // Refused if an air, water, soil or dust intake or a diet is over 10^9.
+    #[tactic(auto, unfolding(crate::specs::Intake::refusal_of, numbers::specs::Choice::unless))]
+    pub fn check(&self) -> Result<(), Refusal>
+        ensures { number_in result ≡ refusal_of self.now }
+    {
+        let [diet, water, dust, soil, _] = self.media;
+        let tested = [self.air, water, soil, dust, diet];
+        if tested.iter().all(|intake| *intake <= INTAKE_MOST) {
+            Ok(())
+        } else {
+            Err(Refusal::IntakeTooLarge)
+        }
+    }
 }
 
 // Air (E-1 to E-3): the outdoor figure for the hours out, and its indoor share for the others.
-fn air_intake(e: Exposure) -> u64
-    requires { ExposureLimits e }
-    ensures { result ≡ air_intake e }
+#[tactic(auto, unfolding(crate::specs::Intake::air_intake))]
+fn air_intake(limited: &LimitedExposure) -> u64
+    ensures { result ≡ air_intake limited.now.exposure }
 {
-    let outdoors = HUNDREDTHS * e.hours_out;
-    let indoors = (HOURS_A_DAY - e.hours_out) * e.indoor;
-    let exposed = e.air * (outdoors + indoors);
-    exposed * e.breathing / AIR_SCALE
+    let exposure = &limited.exposure;
+    let outdoors = HUNDREDTHS * exposure.hours_out;
+    let indoors = (HOURS_A_DAY - exposure.hours_out) * exposure.indoor;
+    let exposed = exposure.air * (outdoors + indoors);
+    exposed * exposure.breathing / AIR_SCALE
 }
 
 // The three water sources by their shares (E-6b; the flushed share by E-7), in hundredths of pg/mL.
-fn mixed_water(e: Exposure) -> u64
-    requires { ExposureLimits e }
-    ensures { Is (mixed_water e) 1_000_000_000 result }
+#[tactic(auto, unfolding(crate::specs::Intake::mixed_water))]
+fn mixed_water(limited: &LimitedExposure) -> u64
+    ensures { Is (mixed_water limited.now.exposure) 1_000_000_000 result }
 {
-    let flushed_share = HUNDREDTHS - e.first_draw_share - e.fountain_share;
-    let flushed = e.flushed * flushed_share;
-    let first_draw = e.first_draw * e.first_draw_share;
-    let fountain = e.fountain * e.fountain_share;
+    let exposure = &limited.exposure;
+    let flushed_share = HUNDREDTHS - exposure.first_draw_share - exposure.fountain_share;
+    let flushed = exposure.flushed * flushed_share;
+    let first_draw = exposure.first_draw * exposure.first_draw_share;
+    let fountain = exposure.fountain * exposure.fountain_share;
     flushed + first_draw + fountain
 }
 
 // Water (E-6a, E-6b).
-fn water_intake(e: Exposure) -> u64
-    requires { ExposureLimits e }
-    ensures { result ≡ water_intake e }
+#[tactic(auto, unfolding(crate::specs::Intake::water_intake))]
+fn water_intake(limited: &LimitedExposure) -> u64
+    ensures { result ≡ water_intake limited.now.exposure }
 {
-    let source = e.water_source;
-    match source {
-        WaterSource::Constant => e.water * e.constant,
-        WaterSource::ThreeSources => e.water * mixed_water(e) / HUNDREDTHS,
+    let exposure = &limited.exposure;
+    match exposure.water_source {
+        WaterSource::Constant => exposure.water * exposure.constant,
+        WaterSource::ThreeSources => exposure.water * mixed_water(limited) / HUNDREDTHS,
     }
 }
 
 // Soil (E-8).
-fn soil_intake(e: Exposure) -> u64
-    requires { ExposureLimits e }
-    ensures { result ≡ soil_intake e }
+#[tactic(auto, unfolding(crate::specs::Intake::soil_intake))]
+fn soil_intake(limited: &LimitedExposure) -> u64
+    ensures { result ≡ soil_intake limited.now.exposure }
 {
-    e.soil * e.eaten * e.weight_soil / HUNDREDTHS
+    let exposure = &limited.exposure;
+    exposure.soil * exposure.eaten * exposure.weight_soil / HUNDREDTHS
 }
 
 // The dust figure, in pg/mg: given, or by the multiple source formula (E-11).
-fn dust_concentration(e: Exposure) -> u64
-    requires { ExposureLimits e }
-    ensures { Is (dust_concentration e) 1_050_000_000 result }
+#[tactic(auto, unfolding(crate::specs::Intake::dust_concentration))]
+fn dust_concentration(limited: &LimitedExposure) -> u64
+    ensures { Is (dust_concentration limited.now.exposure) 1_050_000_000 result }
 {
-    let source = e.dust_source;
-    match source {
-        DustSource::Given => e.dust,
+    let exposure = &limited.exposure;
+    match exposure.dust_source {
+        DustSource::Given => exposure.dust,
         DustSource::MultipleSource => {
-            let from_soil = THOUSANDTHS_A_HUNDREDTH * e.contribution * e.soil;
-            let from_air = e.air_to_dust * e.air;
+            let from_soil = THOUSANDTHS_A_HUNDREDTH * exposure.contribution * exposure.soil;
+            let from_air = exposure.air_to_dust * exposure.air;
             (from_soil + from_air) / THOUSANDTHS
         }
     }
 }
 
 // Dust (E-9).
-fn dust_intake(e: Exposure) -> u64
-    requires { ExposureLimits e }
-    ensures { result ≡ dust_intake e }
+#[tactic(auto, unfolding(crate::specs::Intake::dust_intake))]
+fn dust_intake(limited: &LimitedExposure) -> u64
+    ensures { result ≡ dust_intake limited.now.exposure }
 {
-    let concentration = dust_concentration(e);
-    let weight_dust = HUNDREDTHS - e.weight_soil;
-    concentration * e.eaten * weight_dust / HUNDREDTHS
+    let exposure = &limited.exposure;
+    let concentration = dust_concentration(limited);
+    let weight_dust = HUNDREDTHS - exposure.weight_soil;
+    concentration * exposure.eaten * weight_dust / HUNDREDTHS
 }
 
 // All intakes of an exposure, each computed once.
-pub fn intakes_of(e: Exposure) -> Intakes
-    requires { ExposureLimits e }
-    ensures { result ≡ intakes_of e }
+#[tactic(auto, unfolding(crate::specs::Intake::intakes_of))]
+pub fn intakes_of(limited: &LimitedExposure) -> Intakes
+    ensures { result ≡ intakes_of limited.now.exposure }
 {
-    let air = air_intake(e);
-    let water = water_intake(e);
-    let dust = dust_intake(e);
-    let soil = soil_intake(e);
+    let air = air_intake(limited);
+    let water = water_intake(limited);
+    let dust = dust_intake(limited);
+    let soil = soil_intake(limited);
+    let exposure = &limited.exposure;
     Intakes {
         air,
-        media: [e.diet, water, dust, soil, e.alternate],
+        media: [exposure.diet, water, dust, soil, exposure.alternate],
     }
-}
-
-// Refusal 9, or 0: an air, water, soil or dust intake or a diet over 10^9.
-pub fn intake_refusal(intakes: Intakes) -> u32
-    ensures { result ≡ refusal_of intakes }
-{
-    let media = intakes.media;
-    let water = media[WATER_MEDIUM];
-    let soil = media[SOIL_MEDIUM];
-    let dust = media[DUST_MEDIUM];
-    let diet = media[DIET_MEDIUM];
-    if intakes.air > INTAKE_MOST {
-        return INTAKE_TOO_LARGE;
-    }
-    if water > INTAKE_MOST {
-        return INTAKE_TOO_LARGE;
-    }
-    if soil > INTAKE_MOST {
-        return INTAKE_TOO_LARGE;
-    }
-    if dust > INTAKE_MOST {
-        return INTAKE_TOO_LARGE;
-    }
-    if diet > INTAKE_MOST {
-        return INTAKE_TOO_LARGE;
-    }
-    0
 }

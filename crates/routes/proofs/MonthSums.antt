@@ -1,13 +1,16 @@
 -- A month's sums as the code has them: by its exposure, by what accepted files give it, and all 84.
 -- Assumes nothing.
-use mathlib.Core.Path.{◌≡◌, refl, sym, ap, ap₂, ◌∙◌}
+use mathlib.Core.Path.{◌≡◌, sym, ap, ap₂, ◌∙◌}
 use mathlib.Core.List.{List}
 use Prim.Native.Nat.{ℕ, suc, ◌+◌, ◌≤◌, ◌<◌}
 use native.Mathlib.Numerals.{add-one}
-use lib.ListN.{length, replicate, set}
+use lib.ListN.{length, get_or, replicate, set, length-set, length-replicate, get_or-replicate}
+use lib.Seq.{get_or-set_same, get_or-set_other}
+use native.Mathlib.Omega.{arith}
+use Rattle.std.proofs.Common.{map, below_more}
+use Rattle.std.proofs.lemmas.List.{length-map, get_or-map}
 use Rattle.numbers.specs.Choice.{tab}
-use Rattle.numbers.proofs.Every.{tab_same, tab_zeros}
-use Rattle.numbers.proofs.Loops.{Filled, filled_none, filled_next, filled_all}
+use Rattle.numbers.proofs.Every.{tab_is}
 use Rattle.numbers.proofs.Refusals.{or_else_first, or_else-last, answer_refused}
 use Rattle.exposure.specs.declared.Exposure.{Exposure}
 use Rattle.row.specs.declared.Row.{Row}
@@ -19,9 +22,8 @@ use Rattle.uptake.specs.Routes.{route_sum, day_routes}
 use Rattle.child.specs.Month.{exposure_in, saturation_month}
 use Rattle.files.specs.Files.{Files, files_refusal, scenario_in, table_in}
 use Rattle.routes.specs.declared.RouteSums.{RouteSums}
-use Rattle.routes.specs.declared.MonthlySums.{MonthlySums}
 use Rattle.routes.specs.Sums.{month_routes, sums_of, month_sums, sums_refusal, no_sums, kept_sums, monthly_sums}
-use Rattle.routes.specs.Internal.{exposed_sums, sums_in}
+use Rattle.routes.specs.Internal.{exposed_sums, sums_in, by_route}
 
 module _ (e : Exposure) (weight weight24 : ℕ) where
   pub exposed_none : (r : ℕ) → r ≡ intake_refusal e → (r ≡ 0 → ⊥) → no_sums ≡ exposed_sums e weight weight24
@@ -40,6 +42,26 @@ pub given_sums : (scenario : Scenario) (table : List ℕ) (m : ℕ) {e : Exposur
 unfolding sums_in
 given_sums scenario table m ee er e24 = rw (ee, er, e24)
 
+-- the sums of the first few months are stored
+pub record SumsStored (scenario : Scenario) (table : List ℕ) (sums : List RouteSums) (done : ℕ) : Type 0 where
+  pub long : length sums ≡ last_month
+  pub each : (k : ℕ) → k < done → get_or sums k no_sums ≡ sums_in scenario table (suc k)
+
+pub stored_none : (scenario : Scenario) (table : List ℕ) → SumsStored scenario table (replicate last_month no_sums) 0
+stored_none scenario table = record { long = length-replicate last_month no_sums; each = λ k l. absurd (omega arith) }
+
+pub stored_next : {scenario : Scenario} {table : List ℕ} {sums : List RouteSums} {done : ℕ} → SumsStored scenario table sums done → done < last_month
+    → {x : RouteSums} → x ≡ sums_in scenario table (done + 1) → SumsStored scenario table (set sums done x) (done + 1)
+stored_next {scenario} {table} {sums} {done} s l {x} e =
+    let here : x ≡ sums_in scenario table (suc done) = rw add-one at e in
+    record {
+      long = length-set sums done x ∙ s.long;
+      each =
+          below_more (λ k. get_or (set sums done x) k no_sums ≡ sums_in scenario table (suc k)) done
+          (λ k h. get_or-set_other sums done k x no_sums (λ z. absurd (omega arith)) ∙ s.each k h)
+          (get_or-set_same sums done x no_sums (omega (arith, s.long)) ∙ here);
+    }
+
 -- of accepted files, and of refused ones
 module _ (f : Files) where
   pub accepted_sums : files_refusal f ≡ 0 → (m : ℕ) → sums_in (scenario_in f) (table_in f) m ≡ kept_sums f m
@@ -50,39 +72,25 @@ module _ (f : Files) where
   unfolding kept_sums sums_refusal
   refused_sums r er h m = rw (← er, or_else_first r _ h) (answer_refused (month_sums f m) (λ n. no_sums) r h)
 
-  pub refused_monthly : (r : ℕ) → r ≡ files_refusal f → (r ≡ 0 → ⊥)
-      → ◌≡◌ {A = MonthlySums} (record { passive = replicate last_month 0; active = replicate last_month 0 }) (monthly_sums f)
+  -- sums that are each month's are the months' sums
+  each_month : (sums : List RouteSums) → length sums ≡ last_month → ((k : ℕ) → k < last_month → get_or sums k no_sums ≡ kept_sums f (suc k)) → by_route sums ≡ monthly_sums f
   unfolding monthly_sums
+  each_month sums long each =
+      let column : (g : RouteSums → ℕ) → map g sums ≡ tab last_month (λ k. g (kept_sums f (suc k))) =
+      λ g. sym
+      (tab_is last_month _ (map g sums) (length-map sums g ∙ long)
+      (λ k l.
+      let below : k < length sums = omega (arith, long) in
+      sym (get_or-map g sums k no_sums 0 below ∙ ap g (each k l)))) in
+      ap₂ (λ (p a : List ℕ). record { passive = p; active = a }) (column (λ s. s.passive)) (column (λ s. s.active))
+
+  pub refused_monthly : (r : ℕ) → r ≡ files_refusal f → (r ≡ 0 → ⊥) → by_route (replicate last_month no_sums) ≡ monthly_sums f
   refused_monthly r er h =
-      let zeros : (g : RouteSums → ℕ) → g no_sums ≡ 0 → replicate last_month 0 ≡ tab last_month (λ k. g (kept_sums f (suc k))) =
-      λ g z. sym (tab_zeros last_month) ∙ tab_same last_month _ _ (λ k l. sym (ap g (refused_sums r er h (suc k)) ∙ z)) in
-      ap₂ (λ (p a : List ℕ). record { passive = p; active = a }) (zeros (λ s. s.passive) refl) (zeros (λ s. s.active) refl)
+      each_month (replicate last_month no_sums) (length-replicate last_month no_sums)
+      (λ k l. get_or-replicate last_month k no_sums no_sums l ∙ sym (refused_sums r er h (suc k)))
 
--- the loop over the months: the sums of the first few are stored
-pub record SumsStored (scenario : Scenario) (table : List ℕ) (passive active : List ℕ) (done : ℕ) : Type 0 where
-  pub first : Filled (λ k. (sums_in scenario table (suc k)).passive) last_month passive done
-  pub second : Filled (λ k. (sums_in scenario table (suc k)).active) last_month active done
-
-module _ (scenario : Scenario) (table : List ℕ) where
-  pub stored_none : (passive active : List ℕ) → length passive ≡ last_month → length active ≡ last_month → SumsStored scenario table passive active 0
-  stored_none passive active lp la = record { first = filled_none _ passive lp; second = filled_none _ active la }
-
-module _ {scenario : Scenario} {table passive active : List ℕ} {done : ℕ} (s : SumsStored scenario table passive active done) where
-  pub stored_next : done < last_month → {x : RouteSums} → x ≡ sums_in scenario table (done + 1)
-      → SumsStored scenario table (set passive done x.passive) (set active done x.active) (done + 1)
-  stored_next l {x} e =
-      let here : x ≡ sums_in scenario table (suc done) = rw add-one at e in
-      record {
-        first = filled_next s.first l (ap (λ (y : RouteSums). y.passive) here);
-        second = filled_next s.second l (ap (λ (y : RouteSums). y.active) here);
-      }
-
-  -- all 84, of accepted files
-  pub stored_all : last_month ≤ done → (f : Files) → scenario ≡ scenario_in f → table ≡ table_in f → files_refusal f ≡ 0
-      → ◌≡◌ {A = MonthlySums} (record { passive = passive; active = active }) (monthly_sums f)
-  unfolding monthly_sums
-  stored_all h f es et z =
-      let kept : (k : ℕ) → sums_in scenario table (suc k) ≡ kept_sums f (suc k) = λ k. rw (es, et) (accepted_sums f z (suc k)) in
-      ap₂ (λ (p a : List ℕ). record { passive = p; active = a })
-      (filled_all s.first h ∙ tab_same last_month _ _ (λ k l. ap (λ (y : RouteSums). y.passive) (kept k)))
-      (filled_all s.second h ∙ tab_same last_month _ _ (λ k l. ap (λ (y : RouteSums). y.active) (kept k)))
+  -- all 84, of accepted files: the loop over the months stores the sums of one after the other
+  pub stored_all : {scenario : Scenario} {table : List ℕ} {sums : List RouteSums} {done : ℕ} → SumsStored scenario table sums done → last_month ≤ done
+      → scenario ≡ scenario_in f → table ≡ table_in f → files_refusal f ≡ 0 → by_route sums ≡ monthly_sums f
+  stored_all {sums = sums} s h es et z =
+      each_month sums s.long (λ k l. s.each k (omega arith) ∙ (rw (es, et) (accepted_sums z (suc k))))

@@ -10,7 +10,7 @@ use Rattle.uptake.specs.Routes.{day_routes, route_sum}
 use Rattle.child.specs.Month.{exposure_in, saturation_month}
 use Rattle.files.specs.Files.{Files, files_refusal, scenario_in, table_in}
 use Rattle.routes.specs.declared.RouteSums.{RouteSums}
-use Rattle.routes.specs.declared.MonthlySums.{MonthlySums}
+use Rattle.routes.specs.MonthlySums.{MonthlySums}
 
 -- the day's routes in month m, by the exposure and the body weights that T of the month has
 unfoldable pub month_routes : Scenario → List ℕ → ℕ → Routes

@@ -2,87 +2,83 @@
 #![tactic(auto)]
 
 ghost use Rattle.std.specs.Prelude.{◌≡◌, ◌≤◌, length};
-ghost use Rattle.exposure.specs.Limits.{ExposureLimits};
 ghost use Rattle.row.specs.Row.{last_month};
 ghost use Rattle.book.specs.Book.{table_numbers};
-ghost use Rattle.uptake.specs.Laws.{Weights};
 ghost use Rattle.child.specs.Internal.{Decoded};
 ghost use Rattle.files.specs.Files.{files_if};
 ghost use Rattle.routes.specs.Sums.{monthly_sums};
-ghost use Rattle.routes.specs.Internal.{exposed_sums, sums_in};
+ghost use Rattle.routes.specs.Internal.{exposed_sums, sums_in, by_route};
 
 use book::TABLE_NUMBERS;
 use child::SATURATION_MONTH;
 use child::months::MONTHS;
-use exposure::Exposure;
+use exposure::limited::LimitedExposure;
+use intake::passed::PassedIntakes;
 use site::Scenario;
+use uptake::weights::BodyWeights;
 
 // The sums of a day's two gut routes, in pg.
-#[derive(Clone, Copy)]
+#[derive(Clone, Copy, Debug, PartialEq, Eq)]
 pub struct RouteSums {
     pub passive: u64,
     pub active: u64,
 }
 
-// Those of each month's day.
-#[derive(Clone, Copy)]
-pub struct MonthlySums {
-    pub passive: [u64; MONTHS],
-    pub active: [u64; MONTHS],
+impl RouteSums {
+    // Those of a month that has none.
+    const NONE: RouteSums = RouteSums {
+        passive: 0,
+        active: 0,
+    };
 }
 
 // The sums of an exposure's day, by the body weights of the month and of the saturation's; zeros if 9 refuses its intakes.
-fn exposed_sums(exposure: Exposure, weight: u64, weight24: u64) -> RouteSums
-    requires { (ExposureLimits exposure) × (Weights weight weight24) }
-    ensures { result ≡ exposed_sums exposure weight weight24 }
+fn exposed_sums(limited: &LimitedExposure, weights: BodyWeights) -> RouteSums
+    ensures { result ≡ exposed_sums limited.now.exposure weights.month weights.month24 }
 {
-    let intakes = intake::intakes_of(exposure);
-    let refusal = intake::intake_refusal(intakes);
-    if refusal != 0 {
-        return RouteSums {
-            passive: 0,
-            active: 0,
-        };
+    match PassedIntakes::new(limited) {
+        Ok(passed) => {
+            let routes = uptake::parts::day_routes(&passed, weights);
+            let passive = uptake::total::route_sum(&routes.passive);
+            let active = uptake::total::route_sum(&routes.active);
+            RouteSums { passive, active }
+        }
+        Err(_) => RouteSums::NONE,
     }
-    let routes = uptake::parts::day_routes(exposure, intakes, weight, weight24);
-    let passive_parts = routes.passive;
-    let active_parts = routes.active;
-    let passive = uptake::total::route_sum(passive_parts);
-    let active = uptake::total::route_sum(active_parts);
-    RouteSums { passive, active }
 }
 
 // The sums of a month's day, 1 to 84, from accepted files.
-fn sums_in(scenario: Scenario, table: &[u32], month: u64) -> RouteSums
-    requires { (length table.now ≡ table_numbers) × (Decoded scenario table.now) × (1 ≤ month) × (month ≤ last_month) }
-    ensures { result ≡ sums_in scenario table.now month }
+fn sums_in(scenario: &Scenario, table: &[u32], month: u64) -> RouteSums
+    requires { (length table.now ≡ table_numbers) × (Decoded scenario.now table.now) × (1 ≤ month) × (month ≤ last_month) }
+    ensures { result ≡ sums_in scenario.now table.now month }
 {
     let age = uptake::age::age_of(month);
     let exposure = exposure::exposure_at(scenario, age as usize);
     let row = row::table::row_at(table, month as usize);
     let row24 = row::table::row_at(table, SATURATION_MONTH);
-    exposed_sums(exposure, row.body_weight, row24.body_weight)
+    let limited = LimitedExposure { exposure };
+    let weights = BodyWeights {
+        month: row.body_weight,
+        month24: row24.body_weight,
+    };
+    exposed_sums(&limited, weights)
 }
 
 // The sums of each month's day; zeros in a month whose intakes 9 refuses, and in every month of refused files.
-pub fn monthly_sums(site: &[u8], has_foods: bool, foods: &[u8], book: &[u8]) -> MonthlySums
-    ensures { result ≡ monthly_sums (files_if has_foods site.now foods.now book.now) }
+pub fn monthly_sums(site: &[u8], has_foods: bool, foods: &[u8], book: &[u8]) -> [RouteSums; MONTHS]
+    ensures { by_route result ≡ monthly_sums (files_if has_foods site.now foods.now book.now) }
 {
     let mut table = [0u32; TABLE_NUMBERS];
     let read = files::read_files(site, has_foods, foods, book, &mut table);
     let refusal = read.refusal;
     let scenario = read.scenario;
-    let mut passive = [0u64; MONTHS];
-    let mut active = [0u64; MONTHS];
+    let none = RouteSums::NONE;
+    let mut sums = [none; MONTHS];
     if refusal != 0 {
-        return MonthlySums { passive, active };
+        return sums;
     }
-    let mut done: usize = 0;
-    while done < MONTHS {
-        let sums = sums_in(scenario, &table, done as u64 + 1);
-        passive[done] = sums.passive;
-        active[done] = sums.active;
-        done = done + 1;
+    for done in 0..MONTHS {
+        sums[done] = sums_in(&scenario, &table, done as u64 + 1);
     }
-    MonthlySums { passive, active }
+    sums
 }

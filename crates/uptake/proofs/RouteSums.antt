@@ -31,12 +31,6 @@ unfolding route_sum sum_to
 sum_most parts small = sum_le 5 (at parts) (λ medium. 1_000_000_000) small
 
 module _ {r : Routes} (limits : RoutesLimits r) where
-  pub passive_limits : PartsLimits r.passive
-  passive_limits medium l = omega (arith, limits.media medium l)
-
-  pub active_limits : PartsLimits r.active
-  active_limits medium l = omega (arith, limits.media medium l)
-
   sums_most : route_sum r.passive + route_sum r.active ≤ routes_limit
   unfolding route_sum sum_to
   sums_most =

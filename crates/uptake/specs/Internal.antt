@@ -3,20 +3,11 @@
 use Rattle.std.specs.Prelude.{◌≡◌, ℕ, ◌+◌, ◌≤◌, ◌<◌, List}
 use Rattle.numbers.specs.Choice.{tab}
 use Rattle.exposure.specs.declared.Exposure.{Exposure}
-use Rattle.exposure.specs.Limits.{ExposureLimits}
-use Rattle.intake.specs.declared.Intakes.{Intakes}
 use Rattle.site.specs.Fields.{at}
 use Rattle.uptake.specs.declared.Absorbable.{Absorbable}
 use Rattle.uptake.specs.declared.Routes.{Routes}
-use Rattle.intake.specs.Intake.{intakes_of, intake_refusal}
 use Rattle.uptake.specs.Uptake.{absorbable, absorbable_total}
 use Rattle.uptake.specs.Routes.{day_routes}
-
--- an exposure within its limits, with its intakes, that 9 does not refuse
-pub record PassedIntakes (e : Exposure) (i : Intakes) : Type 0 where
-  pub limits : ExposureLimits e
-  pub intakes : i ≡ intakes_of e
-  pub passed : intake_refusal e ≡ 0
 
 -- the five q beside A
 unfoldable pub absorbable_of : Exposure → Absorbable

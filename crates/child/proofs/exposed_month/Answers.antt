@@ -1,32 +1,24 @@
 -- `child::exposed_month` meets its contract: refused by its intakes, or its steps at its row with its uptake.
 use mathlib.Core.Path.{◌≡◌, sym, ap, ◌∙◌}
-use Rattle.intake.specs.Intake.{refusal_of, intake_refusal}
-use Rattle.uptake.proofs.PassedIntakes.{pass_intakes}
+use Rattle.exposure.specs.declared.limited.LimitedExposure.{LimitedExposure}
+use Rattle.intake.specs.Intake.{intake_refusal}
+use Rattle.intake.proofs.Refused.{number_some}
+use Rattle.uptake.specs.Uptake.{day_uptake}
 use Rattle.steps.specs.Steps.{steps_a_day}
 use Rattle.child.proofs.MonthAnswers.{exposed_refused, exposed_stepped}
 use Rattle.child.proofs.exposed_month.Goals as goal
 
-pub returns-then-refusal-ne0 : goal.returns-then-refusal-ne0
-unfolding intake_refusal
-returns-then-refusal-ne0 c =
-    let refusal_is : c.intake_refusal-refusal.result ≡ intake_refusal c.args.exposure =
-    c.intake_refusal-refusal.ensures ∙ ap refusal_of c.intakes_of-intakes.ensures
-    in
+pub returns-in-Err : goal.returns-in-Err
+returns-in-Err c =
     let a = c.args in
+    let refusal_is : c.number.result ≡ intake_refusal a.exposure = c.number.ensures ∙ c.in-Err.ensures.number in
     c.refused_month.ensures
-    ∙ exposed_refused steps_a_day a.state a.exposure a.row a.weight24 c.intake_refusal-refusal.result (refusal_is) c.if-refusal-ne0.true
+    ∙ exposed_refused steps_a_day a.state a.exposure a.row a.weight24 _ refusal_is (λ none. number_some c.in-Err.refusal (sym c.number.ensures ∙ none))
 
-pub day_uptake-t-requires : goal.day_uptake-t-requires
-day_uptake-t-requires c =
-    let limits = c.requires.1 in
-    (pass_intakes limits.exposed c.intakes_of-intakes.ensures (sym c.intake_refusal-refusal.ensures ∙ c.if-refusal-ne0.false), limits.weights)
-
-pub returns : goal.returns
-unfolding intake_refusal
-returns c =
-    let refusal_is : c.intake_refusal-refusal.result ≡ intake_refusal c.args.exposure =
-    c.intake_refusal-refusal.ensures ∙ ap refusal_of c.intakes_of-intakes.ensures
-    in
+pub returns-in-Ok : goal.returns-in-Ok
+returns-in-Ok c =
     let a = c.args in
-    exposed_stepped steps_a_day a.state a.exposure a.row a.weight24 (sym (refusal_is) ∙ c.if-refusal-ne0.false) c.day_uptake-t.ensures.value
-    c.stepped_month.ensures
+    let uptake_is : c.day_uptake-t.result ≡ day_uptake a.exposure a.row.body_weight a.weight24 =
+    c.day_uptake-t.ensures.value ∙ ap (λ (x : LimitedExposure). day_uptake x.exposure a.row.body_weight a.weight24) c.in-Ok.ensures.same
+    in
+    exposed_stepped steps_a_day a.state a.exposure a.row a.weight24 (sym c.in-Ok.ensures.number) uptake_is c.stepped_month.ensures

@@ -1,28 +1,21 @@
 -- `routes::exposed_sums` meets its contract: zeros if its intakes are refused, else the sums of the day's routes.
 use mathlib.Core.Path.{◌≡◌, sym, ap, ◌∙◌}
-use Rattle.intake.specs.Intake.{refusal_of, intake_refusal}
-use Rattle.uptake.proofs.PassedIntakes.{pass_intakes}
+use Rattle.exposure.specs.declared.limited.LimitedExposure.{LimitedExposure}
+use Rattle.intake.proofs.Refused.{number_some}
+use Rattle.uptake.specs.Routes.{day_routes}
 use Rattle.routes.proofs.MonthSums.{exposed_none, exposed_some}
 use Rattle.routes.proofs.exposed_sums.Goals as goal
 
-pub returns-then-refusal-ne0 : goal.returns-then-refusal-ne0
-unfolding intake_refusal
-returns-then-refusal-ne0 c =
-    let refusal_is : c.intake_refusal-refusal.result ≡ intake_refusal c.args.exposure =
-    c.intake_refusal-refusal.ensures ∙ ap refusal_of c.intakes_of-intakes.ensures
+pub returns-in-Ok : goal.returns-in-Ok
+returns-in-Ok c =
+    let e = c.args.limited.now.exposure in
+    let w = c.args.weights in
+    let routes_is : c.day_routes-routes.result ≡ day_routes e w.month w.month24 =
+    c.day_routes-routes.ensures.value ∙ ap (λ (x : LimitedExposure). day_routes x.exposure w.month w.month24) c.in-Ok.ensures.same
     in
-    let a = c.args in
-    exposed_none a.exposure a.weight a.weight24 c.intake_refusal-refusal.result (refusal_is) c.if-refusal-ne0.true
+    exposed_some e w.month w.month24 (sym c.in-Ok.ensures.number) routes_is c.route_sum-passive.ensures.value c.route_sum-active.ensures.value
 
-pub day_routes-routes-requires : goal.day_routes-routes-requires
-day_routes-routes-requires c = (pass_intakes c.requires.0 c.intakes_of-intakes.ensures (sym c.intake_refusal-refusal.ensures ∙ c.if-refusal-ne0.false), c.requires.1)
-
-pub returns : goal.returns
-unfolding intake_refusal
-returns c =
-    let refusal_is : c.intake_refusal-refusal.result ≡ intake_refusal c.args.exposure =
-    c.intake_refusal-refusal.ensures ∙ ap refusal_of c.intakes_of-intakes.ensures
-    in
-    let a = c.args in
-    exposed_some a.exposure a.weight a.weight24 (sym (refusal_is) ∙ c.if-refusal-ne0.false) c.day_routes-routes.ensures.value
-    c.route_sum-passive.ensures.value c.route_sum-active.ensures.value
+pub returns-in-Err : goal.returns-in-Err
+returns-in-Err c =
+    let w = c.args.weights in
+    exposed_none c.args.limited.now.exposure w.month w.month24 _ c.in-Err.ensures.number (number_some c.in-Err.field-0)

@@ -7,9 +7,9 @@ use Rattle.routes.proofs.sums_in.Goals as goal
 
 pub returns : goal.returns
 returns c =
-    let exposure_is : (let a = c.args in c.exposure_at-exposure.result ≡ exposure_in a.scenario a.month) =
-    c.exposure_at-exposure.ensures ∙ ap (exposure_at c.args.scenario) c.age_of-age.ensures.value
-    in
     let a = c.args in
+    let exposure_is : c.exposure_at-exposure.result ≡ exposure_in a.scenario.now a.month =
+    c.exposure_at-exposure.ensures ∙ ap (exposure_at a.scenario.now) c.age_of-age.ensures.value
+    in
     c.exposed_sums.ensures
-    ∙ given_sums a.scenario a.table.now a.month (exposure_is) c.row_at-row.ensures c.row_at-row24.ensures
+    ∙ given_sums a.scenario.now a.table.now a.month exposure_is c.row_at-row.ensures c.row_at-row24.ensures

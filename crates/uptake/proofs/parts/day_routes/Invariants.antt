@@ -1,10 +1,6 @@
--- `uptake::parts::day_routes` meets its contract. The loop's invariant: both parts of the media passed are stored. The measure is the media left.
-use Prim.Native.Nat.{◌-◌}
+-- `uptake::parts::day_routes` meets its contract. The loop's invariant: both parts of the media passed are stored.
 use Rattle.uptake.proofs.PartLoops.{Parted}
 use Rattle.uptake.proofs.parts.day_routes.Given as goal
 
 abbrev pub invariant-loop-medium : goal.invariant-loop-medium
 invariant-loop-medium l = Parted l.percents l.media l.saturation l.total l.passive l.active l.medium
-
-abbrev pub decreases-loop-medium : goal.decreases-loop-medium
-decreases-loop-medium l = 5 - l.medium

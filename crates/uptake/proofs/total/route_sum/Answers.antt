@@ -1,13 +1,26 @@
--- `uptake::total::route_sum` meets its contract. The loop's invariant: the parts passed are summed. The measure is the media left.
-use native.Mathlib.Omega.{arith}
-use Rattle.uptake.proofs.PartLoops.{parts_none, parts_next, parts_all}
+-- `uptake::total::route_sum` meets its contract: the sum of five parts.
+use mathlib.Core.Path.{◌≡◌, ◌∙◌}
+use Prim.Native.Nat.{◌≤◌}
+use borrow.Author.Rules.{rules}
+use lib.ListN.{length}
+use Rattle.std.specs.List.{sum}
+use Rattle.uptake.specs.Routes.{route_sum}
+use Rattle.uptake.specs.Laws.{routes_limit}
+use Rattle.uptake.proofs.RouteSums.{sum_most}
+use Rattle.uptake.proofs.PartLoops.{sum_parts}
 use Rattle.uptake.proofs.total.route_sum.Goals as goal
 
-pub loop-medium-init : goal.loop-medium-init
-loop-medium-init c = parts_none c.requires
-
-pub loop-medium-preserved : goal.loop-medium-preserved
-loop-medium-preserved c = parts_next c.loop-medium.invariant (omega (arith, c.loop-medium-test.true))
+pub sum-requires-clause-fits : goal.sum-requires-clause-fits
+sum-requires-clause-fits c =
+    let parts = c.args.parts.now in
+    let long : length parts ≡ 5 = search rules in
+    let small : sum parts ≤ routes_limit = rw (sum_parts parts long) (sum_most parts c.requires) in
+    search rules
 
 pub returns : goal.returns
-returns c = parts_all c.loop-medium.invariant c.loop-medium-test.false
+returns c =
+    let parts = c.args.parts.now in
+    let long : length parts ≡ 5 = search rules in
+    let value : c.sum.result ≡ sum parts = search rules in
+    let is : c.sum.result ≡ route_sum parts = value ∙ sum_parts parts long in
+    record { value = is; small = rw is (sum_most parts c.requires) }

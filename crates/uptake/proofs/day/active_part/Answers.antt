@@ -1,9 +1,0 @@
--- `uptake::day::active_part` meets its contract: the product fits, the divisor is not 0, and the part is at most the rest.
-use mathlib.Core.Path.{refl}
-use Rattle.uptake.specs.Uptake.{active_part}
-use Rattle.uptake.proofs.UptakeBounds.{active_most}
-use Rattle.uptake.proofs.day.active_part.Goals as goal
-
-pub returns : goal.returns
-unfolding active_part
-returns c = record { value = refl; small = active_most c.args.rest c.args.saturation c.args.total }
