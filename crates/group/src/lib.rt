@@ -7,7 +7,7 @@ ghost use Rattle.book.specs.Book.{table_numbers};
 ghost use Rattle.files.specs.Files.{files_if, files_decodes};
 ghost use Rattle.steps.specs.Steps.{steps_a_day};
 ghost use Rattle.card.specs.declared.Card.{Card};
-ghost use Rattle.cardsite.specs.declared.Start.TheVariants.{Runs};
+ghost use Rattle.cardsite.specs.Start.{Runs};
 ghost use Rattle.cardsite.specs.Laws.{Running};
 ghost use Rattle.cardsite.specs.RowExposure.{row_exposure};
 ghost use Rattle.child.specs.Internal.{MonthLimits};

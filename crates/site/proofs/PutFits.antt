@@ -1,10 +1,9 @@
 -- Fields that fit, with a figure within its limit put in, fit.
 -- Assumes nothing.
-use mathlib.Core.Path.{◌≡◌, refl, sym, ap, ◌∙◌}
+use mathlib.Core.Path.{◌≡◌, refl, sym, ◌∙◌}
 use mathlib.Core.Bool.{true, ◌&&◌}
 use mathlib.Core.List.{List}
-use Prim.Native.Nat.{ℕ, zero, suc, ◌+◌, ◌*◌, ◌/◌, ◌≤◌, ◌<◌}
-use native.Mathlib.Numerals.{add-one}
+use Prim.Native.Nat.{ℕ, zero, suc, ◌+◌, ◌-◌, ◌*◌, ◌/◌, ◌≤◌, ◌<◌}
 use native.Mathlib.Omega.{arith}
 use native.Mathlib.Decide.{ℕ_discrete}
 use borrow.Author.Tests.{le-leb, eqb-true}
@@ -111,28 +110,19 @@ pub every_age_fits : EveryAgeFits
 every_age_fits fields was g h v l =
     put-from-fits fields was (ages * g) v ages (omega arith) (λ k s. omega (arith, group_limit g h k s))
 
--- the loop of `every_age`: the figure stands at the ages passed
-pub record InAges (group v : ℕ) (fields changed : List ℕ) (age : ℕ) : Type 0 where
-  pub room : group + ages ≤ field_count
-  pub reach : age ≤ ages
-  pub same : changed ≡ put_from group age v fields
-
-pub ages_none : (group v : ℕ) (fields : List ℕ) → group + ages ≤ field_count → InAges group v fields fields 0
+-- the loop of `figure_from`: the figure stands at the places passed
+pub put_from_none : (from v : ℕ) (fields : List ℕ) → fields ≡ put_from from (from - from) v fields
 unfolding put_from
-ages_none group v fields room = record { room = room; reach = omega arith; same = refl }
+put_from_none from v fields = let none : from - from ≡ 0 = omega arith in rw none
 
-module _ {group v : ℕ} {fields changed : List ℕ} {age : ℕ} (inv : InAges group v fields changed age) where
-  pub ages-next : age < ages → InAges group v fields (set changed (group + age) v) (age + 1)
-  unfolding put_from
-  ages-next h =
-      record {
-        room = inv.room;
-        reach = omega arith;
-        same = rw add-one (ap (λ (l : List ℕ). set l (group + age) v) inv.same);
-      }
-
-  pub ages_all : ages ≤ age → changed ≡ put_from group ages v fields
-  ages_all h = let all : age ≡ ages = omega (arith, inv.reach) in rw all at inv.same
+pub put_from_next :
+    (from place v : ℕ) (fields changed : List ℕ) → from ≤ place → changed ≡ put_from from (place - from) v fields
+    → set changed place v ≡ put_from from (place + 1 - from) v fields
+unfolding put_from
+put_from_next from place v fields changed reach e =
+    let one : place + 1 - from ≡ suc (place - from) = omega arith in
+    let here : from + (place - from) ≡ place = omega arith in
+    rw (one, here, e)
 
 -- what was put stands, and the rest stays
 pub every_age_puts : EveryAgePuts

@@ -1,6 +1,6 @@
 -- `roll::start_in` meets its contract: what the words say, by the first of them.
 use mathlib.Core.Path.{ap, ◌∙◌}
-use Rattle.card.specs.declared.RowRead.TheVariants as read
+use Rattle.card.specs.RowRead as read
 use Rattle.cardsite.specs.Start.{start_of}
 use Rattle.roll.proofs.RowWords.{says_card, says_skipped, says_refused}
 use Rattle.roll.proofs.start_in.Goals as goal
