@@ -5,7 +5,7 @@ use mathlib.Core.Path.{◌≡◌, refl, sym, ap, ◌∙◌}
 use mathlib.Core.Bool.{Bool, true, false, cond}
 use mathlib.Core.List.{List}
 use native.Mathlib.Omega.{arith}
-use borrow.Author.Tests.{eq-eqb, ne_eqb, ltb-false}
+use borrow.Author.Tests.{ne_eqb, ltb-false}
 use lib.ListN.{length}
 use lib.Dec.{eqb}
 use Rattle.site.specs.Fields.{field_count, at, limits}
@@ -27,9 +27,6 @@ use Rattle.roll.specs.Internal.{FitsWords}
 use Rattle.roll.specs.Laws.{WordsLaw}
 
 -- a word is a gap or a figure
-pub value_gap : (w : ℕ) → w ≡ gap_word → None ≡ value_in w
-value_gap w e = rw (eq-eqb w gap_word e)
-
 pub value_figure : (w : ℕ) → (w ≡ gap_word → ⊥) → Some w ≡ value_in w
 value_figure w n = rw (ne_eqb w gap_word n)
 
@@ -78,20 +75,6 @@ card_back c run =
       value_back _ (omega arith) c.absdust own.absdust,
     )
 
--- what nine words say, by their first
-module _ (words : List ℕ) where
-  pub says_card : at words 0 ≡ 0 → start_of (read.Accepted (card_in words)) ≡ start_in words
-  unfolding start_in
-  says_card e = rw e
-
-  pub says_skipped : at words 0 ≡ 1 → Skipped ≡ start_in words
-  unfolding start_in
-  says_skipped e = rw e
-
-  pub says_refused : (at words 0 ≡ 0 → ⊥) → (at words 0 ≡ 1 → ⊥) → Refused (at words 1) ≡ start_in words
-  unfolding start_in
-  says_refused z n = rw (ne_eqb (at words 0) 0 z, ne_eqb (at words 0) 1 n)
-
 -- every card that runs is what becomes of itself
 runs_again : (c : Card) → Running c → start_of (read.Accepted c) ≡ Runs c
 runs_again c run = rw (run.runs, run.within)
@@ -114,13 +97,9 @@ words_long (Runs c) = refl
 words_long Skipped = refl
 words_long (Refused n) = refl
 
--- the words that the code makes, by what becomes of the row
-module _ (kept : RowText) {x : Start} (ex : x ≡ start_of (read_kept kept)) where
-  pub runs_fits : (c : Card) → x ≡ Runs c → FitsWords c
-  runs_fits c e = running_fits c (runs_within (read_kept kept) c (sym ex ∙ e))
-
-  pub words_of_lem : (y : Start) → x ≡ y → start_words y ≡ start_words (start_of (read_kept kept))
-  words_of_lem y e = ap start_words (sym e ∙ ex)
+-- a row's card that runs fits its words
+pub runs_fits : (kept : RowText) (c : Card) → Runs c ≡ start_of (read_kept kept) → FitsWords c
+runs_fits kept c e = running_fits c (runs_within (read_kept kept) c (sym e))
 
 -- a row that runs by its words is a card that runs
 running_words : (words : List ℕ) (c : Card) (zero one : Bool)

@@ -11,7 +11,7 @@ use lib.ListN.{length, take, drop, length-append, length-map, length-drop, drop_
 use lib.Seq.{drop-drop, take_at, take_all, length-take-le}
 use Rattle.lines.specs.declared.RowText.{RowText}
 use Rattle.lines.specs.declared.Reader.{Reader}
-use Rattle.lines.specs.declared.Walk.{Walk}
+use Rattle.lines.specs.Walk.{Walk}
 use Rattle.lines.specs.Text.{lines_of, line_start}
 use Rattle.lines.specs.Summary.{summary_of}
 use Rattle.lines.specs.Stream.{row_start, ended, last}
