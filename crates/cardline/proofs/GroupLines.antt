@@ -17,8 +17,7 @@ use Rattle.lines.specs.Summary.{summary_of}
 use Rattle.lines.specs.Stream.{start, after, ended, last, read_rows}
 use Rattle.lines.proofs.Reading.{rows_read, after-pieces, ended-pieces}
 use Rattle.card.specs.Row.{read_kept}
-use Rattle.cardsite.specs.declared.Start.{Start}
-use Rattle.cardsite.specs.Start.{start_of}
+use Rattle.cardsite.specs.Start.{Start, start_of}
 use Rattle.roll.specs.Words.{rows_a_group, start_at, starts_in}
 use Rattle.roll.specs.Enrol.{with_rows}
 use Rattle.roll.proofs.RollRows.{rolled_rows}

@@ -7,24 +7,23 @@ use native.Mathlib.Omega.{arith}
 use borrow.Author.Tests.{ltb-false}
 use Rattle.site.specs.Fields.{field_count, at, limits, by_age, air_group, soil_group, dust_group, alternate_group, constant_at, absorbed_dust_at, absorbed_soil_at}
 use Rattle.site.proofs.FieldTests.{limit_small}
-use Rattle.card.specs.declared.Value.{Value}
-use Rattle.card.specs.declared.Value.TheVariants.{Missing, Figure}
+use Rattle.std.specs.Prelude.{Option, None, Some}
 use Rattle.card.specs.declared.Card.{Card}
 use Rattle.card.specs.Values.{or_other, soil_in, dust_in}
 use Rattle.cardsite.specs.Over.{over, over_ages, over_single, over_limit}
 
 -- a figure within its limit is a 32-bit number
-pub within_small : (place n : ℕ) → place < field_count → over (at limits place) (Figure n) ≡ false → n < 4_294_967_296
+pub within_small : (place n : ℕ) → place < field_count → over (at limits place) (Some n) ≡ false → n < 4_294_967_296
 within_small place n h e = omega (arith, limit_small place h, ltb-false (at limits place) n e)
 
 -- soil and dust have one limit, so a copied one is within it
-soil_as_dust : (v : Value) → over_ages soil_group v ≡ over_ages dust_group v
+soil_as_dust : (v : Option ℕ) → over_ages soil_group v ≡ over_ages dust_group v
 unfolding limits
 soil_as_dust v = refl
 
-or_within : (limit : ℕ) (v w : Value) → over limit v ≡ false → over limit w ≡ false → over limit (or_other v w) ≡ false
-or_within limit Missing w a b = b
-or_within limit (Figure n) w a b = a
+or_within : (limit : ℕ) (v w : Option ℕ) → over limit v ≡ false → over limit w ≡ false → over limit (or_other v w) ≡ false
+or_within limit None w a b = b
+or_within limit (Some n) w a b = a
 
 -- the figures of a card that passes its 7, each by itself
 pub record OwnWithin (c : Card) : Type 0 where
@@ -50,9 +49,6 @@ pub record Within (c : Card) : Type 0 where
 pub or_none : (a b : Bool) → a || b ≡ false → (a ≡ false) × (b ≡ false)
 or_none false b e = (refl, e)
 or_none true b e = absurd (true≢false e)
-
-pub or_false : (a b : Bool) → a ≡ false → b ≡ false → a || b ≡ false
-or_false a b p q = rw (p, q)
 
 module _ (c : Card) where
   -- one of the first figures is over its limit, up to soil, dust, water, air, other, abssoil
@@ -106,32 +102,3 @@ module _ (c : Card) where
         abssoil = own.abssoil;
         absdust = own.absdust;
       }
-
-  -- the ways out of `over_limit`: the first figure that is over its limit, or the last
-  pub over_soil : up_to_soil ≡ true → true ≡ over_limit c
-  unfolding over_limit
-  over_soil e = rw e
-
-  pub over_dust : up_to_soil ≡ false → over_ages dust_group c.dust ≡ true → true ≡ over_limit c
-  unfolding over_limit
-  over_dust passed e = rw (passed, e)
-
-  pub over_water : up_to_dust ≡ false → over_single constant_at c.water ≡ true → true ≡ over_limit c
-  unfolding over_limit
-  over_water passed e = rw (passed, e)
-
-  pub over_air : up_to_water ≡ false → over_ages air_group c.air ≡ true → true ≡ over_limit c
-  unfolding over_limit
-  over_air passed e = rw (passed, e)
-
-  pub over-other : up_to_air ≡ false → over_ages alternate_group c.other ≡ true → true ≡ over_limit c
-  unfolding over_limit
-  over-other passed e = rw (passed, e)
-
-  pub over_abssoil : up_to_other ≡ false → over_single absorbed_soil_at c.abssoil ≡ true → true ≡ over_limit c
-  unfolding over_limit
-  over_abssoil passed e = rw (passed, e)
-
-  pub over_absdust : up_to_abssoil ≡ false → {last : Bool} → last ≡ over_single absorbed_dust_at c.absdust → last ≡ over_limit c
-  unfolding over_limit
-  over_absdust passed e = rw passed e

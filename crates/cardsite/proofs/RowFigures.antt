@@ -7,7 +7,7 @@ use Rattle.site.specs.declared.DustSource.TheVariants.{Given}
 use Rattle.site.specs.declared.WaterSource.TheVariants.{Constant}
 use Rattle.site.specs.Fields.{at}
 use Rattle.exposure.specs.declared.Exposure.{Exposure}
-use Rattle.card.specs.declared.Value.{Value}
+use Rattle.std.specs.Prelude.{Option}
 use Rattle.card.specs.declared.Card.{Card}
 use Rattle.card.specs.Values.{soil_in, dust_in}
 use Rattle.cardsite.specs.RowExposure.{or_own, row_exposure}
@@ -44,7 +44,7 @@ with_figures e air soil dust alternate constant absdust abssoil =
     }
 
 pub figures-are :
-    (c : Card) (e : Exposure) {s d : Value} {air soil dust alternate constant absdust abssoil : ℕ} → s ≡ soil_in c → d ≡ dust_in c
+    (c : Card) (e : Exposure) {s d : Option ℕ} {air soil dust alternate constant absdust abssoil : ℕ} → s ≡ soil_in c → d ≡ dust_in c
     → air ≡ or_own c.air e.air → soil ≡ or_own s e.soil → dust ≡ or_own d e.dust → alternate ≡ or_own c.other e.alternate
     → constant ≡ or_own c.water e.constant → absdust ≡ or_own c.absdust (at e.absorbed 2) → abssoil ≡ or_own c.abssoil (at e.absorbed 3)
     → with_figures e air soil dust alternate constant absdust abssoil ≡ row_exposure c e

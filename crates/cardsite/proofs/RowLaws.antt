@@ -12,8 +12,7 @@ use Rattle.site.specs.Scenario.{scenario_of, with_diets}
 use Rattle.site.specs.Laws.{Fits, Plain}
 use Rattle.site.proofs.PutFits.{singly_fits, every_age_fits}
 use Rattle.exposure.proofs.ExposureWithin.{exposure_within}
-use Rattle.card.specs.declared.Value.{Value}
-use Rattle.card.specs.declared.Value.TheVariants.{Missing, Figure}
+use Rattle.std.specs.Prelude.{Option, None, Some}
 use Rattle.card.specs.declared.Card.{Card}
 use Rattle.card.specs.Values.{soil_in, dust_in}
 use Rattle.cardsite.specs.Over.{over_ages, over_single, over_limit}
@@ -22,13 +21,13 @@ use Rattle.cardsite.specs.Laws.{RowFits, RowWithin}
 use Rattle.cardsite.proofs.Limited.{within}
 
 -- a value put in, where it is given
-ages_fit : {fields : List ℕ} → Fits fields → (g : ℕ) → g < groups → (v : Value) → over_ages g v ≡ false → Fits (given (every_age g) v fields)
-ages_fit was g h Missing e = was
-ages_fit {fields} was g h (Figure n) e = every_age_fits fields was g h n (ltb-false (by_age limits g 0) n e)
+ages_fit : {fields : List ℕ} → Fits fields → (g : ℕ) → g < groups → (v : Option ℕ) → over_ages g v ≡ false → Fits (given (every_age g) v fields)
+ages_fit was g h None e = was
+ages_fit {fields} was g h (Some n) e = every_age_fits fields was g h n (ltb-false (by_age limits g 0) n e)
 
-single_fit : {fields : List ℕ} → Fits fields → (k : ℕ) → Plain k → (v : Value) → over_single k v ≡ false → Fits (given (singly k) v fields)
-single_fit was k h Missing e = was
-single_fit {fields} was k h (Figure n) e = singly_fits fields was k h n (ltb-false (single limits k) n e)
+single_fit : {fields : List ℕ} → Fits fields → (k : ℕ) → Plain k → (v : Option ℕ) → over_single k v ≡ false → Fits (given (singly k) v fields)
+single_fit was k h None e = was
+single_fit {fields} was k h (Some n) e = singly_fits fields was k h n (ltb-false (single limits k) n e)
 
 -- the single fields that a row puts are plain: they stand before the water shares, or after them and before saturation
 before_shares : (k : ℕ) → k < first_draw_share_at → Plain k

@@ -14,8 +14,7 @@ use Rattle.site.specs.Put.{every_age, singly}
 use Rattle.site.specs.Scenario.{scenario_of}
 use Rattle.site.proofs.PutFits.{every_age_puts, singly_puts, put_from_long}
 use Rattle.exposure.specs.Exposure.{exposure_at}
-use Rattle.card.specs.declared.Value.{Value}
-use Rattle.card.specs.declared.Value.TheVariants.{Missing, Figure}
+use Rattle.std.specs.Prelude.{Option, None, Some}
 use Rattle.card.specs.declared.Card.{Card}
 use Rattle.card.specs.Values.{soil_in, dust_in}
 use Rattle.cardsite.specs.Fields.{given, media_fields, row_fields, row_scenario}
@@ -23,13 +22,13 @@ use Rattle.cardsite.specs.RowExposure.{or_own}
 use Rattle.cardsite.specs.Laws.{RowExposures, RowMother}
 
 -- a value put in where it is given, at a place that it is for, or at another
-abbrev chosen : ℕ → ℕ → Value → ℕ → ℕ
+abbrev chosen : ℕ → ℕ → Option ℕ → ℕ → ℕ
 chosen here there v own = cond (eqb here there) (or_own v own) own
 
-chosen_here : (here there : ℕ) (v : Value) (own : ℕ) → here ≡ there → or_own v own ≡ chosen here there v own
+chosen_here : (here there : ℕ) (v : Option ℕ) (own : ℕ) → here ≡ there → or_own v own ≡ chosen here there v own
 chosen_here here there v own e = rw (eq-eqb here there e)
 
-chosen_other : (here there : ℕ) (v : Value) (own : ℕ) → (here ≡ there → ⊥) → own ≡ chosen here there v own
+chosen_other : (here there : ℕ) (v : Option ℕ) (own : ℕ) → (here ≡ there → ⊥) → own ≡ chosen here there v own
 chosen_other here there v own n = rw (ne_eqb here there n)
 
 abbrev Long : List ℕ → Type 0
@@ -37,50 +36,50 @@ Long fields = length fields ≡ field_count
 
 -- at every age of group h
 module _ (fields : List ℕ) (long : Long fields) (h : ℕ) (room : h < groups) where
-  ages_long : (v : Value) → Long (given (every_age h) v fields)
-  ages_long Missing = long
-  ages_long (Figure n) = put_from_long fields (ages * h) n ages ∙ long
+  ages_long : (v : Option ℕ) → Long (given (every_age h) v fields)
+  ages_long None = long
+  ages_long (Some n) = put_from_long fields (ages * h) n ages ∙ long
 
-  ages_same : (v : Value) (age : ℕ) → age ≤ last_age → by_age (given (every_age h) v fields) h age ≡ or_own v (by_age fields h age)
-  ages_same Missing age l = refl
-  ages_same (Figure n) age l = (every_age_puts fields long h room n).stands age l
+  ages_same : (v : Option ℕ) (age : ℕ) → age ≤ last_age → by_age (given (every_age h) v fields) h age ≡ or_own v (by_age fields h age)
+  ages_same None age l = refl
+  ages_same (Some n) age l = (every_age_puts fields long h room n).stands age l
 
-  ages-other : (v : Value) (place : ℕ) → ((age : ℕ) → age ≤ last_age → place ≡ ages * h + age → ⊥) → at (given (every_age h) v fields) place ≡ at fields place
-  ages-other Missing place other = refl
-  ages-other (Figure n) place other = (every_age_puts fields long h room n).keeps place other
+  ages-other : (v : Option ℕ) (place : ℕ) → ((age : ℕ) → age ≤ last_age → place ≡ ages * h + age → ⊥) → at (given (every_age h) v fields) place ≡ at fields place
+  ages-other None place other = refl
+  ages-other (Some n) place other = (every_age_puts fields long h room n).keeps place other
 
-  ages_by_age : (v : Value) (g age : ℕ) → age ≤ last_age → by_age (given (every_age h) v fields) g age ≡ chosen g h v (by_age fields g age)
+  ages_by_age : (v : Option ℕ) (g age : ℕ) → age ≤ last_age → by_age (given (every_age h) v fields) g age ≡ chosen g h v (by_age fields g age)
   ages_by_age v g age l =
       elim (ℕ_discrete g h) [
         | yes e ↦ rw e (ages_same v age l ∙ chosen_here h h v (by_age fields h age) refl)
         | no n ↦ ages-other v (ages * g + age) (λ a m e. n (omega arith)) ∙ chosen_other g h v (by_age fields g age) n
       ]
 
-  ages-single : (v : Value) (k : ℕ) → single (given (every_age h) v fields) k ≡ single fields k
+  ages-single : (v : Option ℕ) (k : ℕ) → single (given (every_age h) v fields) k ≡ single fields k
   ages-single v k = ages-other v (singles_at + k) (λ a l e. omega arith)
 
 -- singly, at field j of those that stand so
 module _ (fields : List ℕ) (long : Long fields) (j : ℕ) (room : j < singles) where
-  single_long : (v : Value) → Long (given (singly j) v fields)
-  single_long Missing = long
-  single_long (Figure n) = length-set fields (singles_at + j) n ∙ long
+  single_long : (v : Option ℕ) → Long (given (singly j) v fields)
+  single_long None = long
+  single_long (Some n) = length-set fields (singles_at + j) n ∙ long
 
-  single-other : (v : Value) (place : ℕ) → (place ≡ singles_at + j → ⊥) → at (given (singly j) v fields) place ≡ at fields place
-  single-other Missing place other = refl
-  single-other (Figure n) place other = (singly_puts fields long j room n).keeps place other
+  single-other : (v : Option ℕ) (place : ℕ) → (place ≡ singles_at + j → ⊥) → at (given (singly j) v fields) place ≡ at fields place
+  single-other None place other = refl
+  single-other (Some n) place other = (singly_puts fields long j room n).keeps place other
 
-  single_same : (v : Value) → single (given (singly j) v fields) j ≡ or_own v (single fields j)
-  single_same Missing = refl
-  single_same (Figure n) = (singly_puts fields long j room n).stands
+  single_same : (v : Option ℕ) → single (given (singly j) v fields) j ≡ or_own v (single fields j)
+  single_same None = refl
+  single_same (Some n) = (singly_puts fields long j room n).stands
 
-  single-single : (v : Value) (k : ℕ) → single (given (singly j) v fields) k ≡ chosen k j v (single fields k)
+  single-single : (v : Option ℕ) (k : ℕ) → single (given (singly j) v fields) k ≡ chosen k j v (single fields k)
   single-single v k =
       elim (ℕ_discrete k j) [
         | yes e ↦ rw e (single_same v ∙ chosen_here j j v (single fields j) refl)
         | no n ↦ single-other v (singles_at + k) (λ e. n (omega arith)) ∙ chosen_other k j v (single fields k) n
       ]
 
-  single_by_age : (v : Value) (g age : ℕ) → g < groups → age ≤ last_age → by_age (given (singly j) v fields) g age ≡ by_age fields g age
+  single_by_age : (v : Option ℕ) (g age : ℕ) → g < groups → age ≤ last_age → by_age (given (singly j) v fields) g age ≡ by_age fields g age
   single_by_age v g age r l = single-other v (ages * g + age) (λ e. omega arith)
 
 -- a card's figures, one after the other
@@ -131,7 +130,7 @@ module _ (c : Card) (fields : List ℕ) (long : Long fields) where
   l₇ = single_long f₆ l₆ absorbed_dust_at (omega arith) c.absdust
 
   l₈ : Long f₈
-  l₈ = single_long f₇ l₇ dust_mode_at (omega arith) (Figure 0)
+  l₈ = single_long f₇ l₇ dust_mode_at (omega arith) (Some 0)
 
   -- what stands for an age of group g, and at field k of those that stand singly
   abbrev row_group : ℕ → ℕ → ℕ
@@ -139,16 +138,16 @@ module _ (c : Card) (fields : List ℕ) (long : Long fields) where
 
   abbrev row_single : ℕ → ℕ → ℕ
   row_single k own =
-      chosen k water_mode_at (Figure 0)
-      (chosen k dust_mode_at (Figure 0)
+      chosen k water_mode_at (Some 0)
+      (chosen k dust_mode_at (Some 0)
       (chosen k absorbed_dust_at c.absdust
       (chosen k absorbed_soil_at c.abssoil (chosen k constant_at c.water own))))
 
   row_by_age : (g : ℕ) → g < groups → (age : ℕ) → age ≤ last_age → by_age (row_fields c fields) g age ≡ row_group g (by_age fields g age)
   unfolding row_fields media_fields
   row_by_age g r age l =
-      single_by_age f₈ l₈ water_mode_at (omega arith) (Figure 0) g age r l
-      ∙ single_by_age f₇ l₇ dust_mode_at (omega arith) (Figure 0) g age r l
+      single_by_age f₈ l₈ water_mode_at (omega arith) (Some 0) g age r l
+      ∙ single_by_age f₇ l₇ dust_mode_at (omega arith) (Some 0) g age r l
       ∙ single_by_age f₆ l₆ absorbed_dust_at (omega arith) c.absdust g age r l
       ∙ single_by_age f₅ l₅ absorbed_soil_at (omega arith) c.abssoil g age r l
       ∙ single_by_age f₄ l₄ constant_at (omega arith) c.water g age r l
@@ -162,10 +161,10 @@ module _ (c : Card) (fields : List ℕ) (long : Long fields) where
   row_single_lem : (k : ℕ) → single (row_fields c fields) k ≡ row_single k (single fields k)
   unfolding row_fields media_fields
   row_single_lem k =
-      single-single f₈ l₈ water_mode_at (omega arith) (Figure 0) k
-      ∙ ap (chosen k water_mode_at (Figure 0))
-      (single-single f₇ l₇ dust_mode_at (omega arith) (Figure 0) k
-      ∙ ap (chosen k dust_mode_at (Figure 0))
+      single-single f₈ l₈ water_mode_at (omega arith) (Some 0) k
+      ∙ ap (chosen k water_mode_at (Some 0))
+      (single-single f₇ l₇ dust_mode_at (omega arith) (Some 0) k
+      ∙ ap (chosen k dust_mode_at (Some 0))
       (single-single f₆ l₆ absorbed_dust_at (omega arith) c.absdust k
       ∙ ap (chosen k absorbed_dust_at c.absdust)
       (single-single f₅ l₅ absorbed_soil_at (omega arith) c.abssoil k

@@ -1,15 +1,12 @@
 -- Worked rows: what becomes of each, of the definitions themselves.
 -- Assumes nothing.
-use Rattle.std.specs.Prelude.{ℕ, ◌≡◌, Bool, true, false, List, [], ◌∷◌}
+use Rattle.std.specs.Prelude.{ℕ, ◌≡◌, Bool, true, false, List, [], ◌∷◌, None, Some}
 use Prim.Native.Char.{code}
 use Prim.Native.String.{String, [] as empty, ◌∷◌ as ◌then◌}
 use Rattle.numbers.specs.Lists.{Each}
-use Rattle.card.specs.declared.Value.TheVariants.{Missing, Figure}
-use Rattle.card.specs.declared.RowRead.TheVariants as read
+use Rattle.card.specs.RowRead as read
 use Rattle.card.specs.Row.{read_row}
-use Rattle.cardsite.specs.declared.Start.{Start}
-use Rattle.cardsite.specs.declared.Start.TheVariants.{Runs, Skipped, Refused}
-use Rattle.cardsite.specs.Start.{start_of}
+use Rattle.cardsite.specs.Start.{Start, Runs, Skipped, Refused, start_of}
 
 -- the bytes of a text
 unfoldable pub bytes_of : String → List ℕ
@@ -87,12 +84,12 @@ pub record Bench : Type 0 where
       read_row (bytes_of "A1 * 7 30 123.4 * 4 0.1 2.5 * 30 25")
       ≡ read.Accepted
       (record {
-        age = Figure 30;
-        soil = Figure 123_400;
-        dust = Missing;
-        water = Figure 4_000;
-        air = Figure 100_000;
-        other = Figure 2_500_000;
-        abssoil = Figure 30;
-        absdust = Figure 25;
+        age = Some 30;
+        soil = Some 123_400;
+        dust = None;
+        water = Some 4_000;
+        air = Some 100_000;
+        other = Some 2_500_000;
+        abssoil = Some 30;
+        absdust = Some 25;
       })

@@ -1,19 +1,17 @@
 -- The fields and the scenario of a site file with a card's figures put over its own.
 -- Assumes nothing.
-use Rattle.std.specs.Prelude.{ℕ, List}
+use Rattle.std.specs.Prelude.{ℕ, List, Option, None, Some}
 use Rattle.site.specs.Fields.{air_group, soil_group, dust_group, alternate_group, dust_mode_at, water_mode_at, constant_at, absorbed_dust_at, absorbed_soil_at}
 use Rattle.site.specs.Put.{every_age, singly}
 use Rattle.site.specs.declared.Scenario.{Scenario}
 use Rattle.site.specs.Scenario.{scenario_of, with_diets}
-use Rattle.card.specs.declared.Value.{Value}
-use Rattle.card.specs.declared.Value.TheVariants.{Missing, Figure}
 use Rattle.card.specs.declared.Card.{Card}
 use Rattle.card.specs.Values.{soil_in, dust_in}
 
 -- a value put in, where it is given; a gap keeps the site file's own
-abbrev pub given : (ℕ → List ℕ → List ℕ) → Value → List ℕ → List ℕ
-given put Missing fields = fields
-given put (Figure n) fields = put n fields
+abbrev pub given : (ℕ → List ℕ → List ℕ) → Option ℕ → List ℕ → List ℕ
+given put None fields = fields
+given put (Some n) fields = put n fields
 
 -- soil and dust, of which a missing one copies the other; air and alternate; constant water
 unfoldable pub media_fields : Card → List ℕ → List ℕ

@@ -8,10 +8,9 @@ use Rattle.site.specs.Laws.{Fits}
 use Rattle.exposure.specs.Exposure.{exposure_at}
 use Rattle.exposure.specs.Limits.{ExposureLimits}
 use Rattle.card.specs.declared.Card.{Card}
-use Rattle.card.specs.declared.RowRead.{RowRead}
+use Rattle.card.specs.RowRead.{RowRead}
 use Rattle.card.specs.Values.{months_of, skipped}
-use Rattle.cardsite.specs.declared.Start.TheVariants.{Runs}
-use Rattle.cardsite.specs.Start.{start_of}
+use Rattle.cardsite.specs.Start.{Runs, start_of}
 use Rattle.cardsite.specs.Over.{over_limit}
 use Rattle.cardsite.specs.Fields.{row_fields, row_scenario}
 use Rattle.cardsite.specs.RowExposure.{row_exposure}

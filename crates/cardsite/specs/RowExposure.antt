@@ -1,19 +1,17 @@
 -- What a row makes of an exposure.
 -- Assumes nothing.
-use Rattle.std.specs.Prelude.{ℕ, [], ◌∷◌}
+use Rattle.std.specs.Prelude.{ℕ, [], ◌∷◌, Option, None, Some}
 use Rattle.site.specs.declared.DustSource.TheVariants.{Given}
 use Rattle.site.specs.declared.WaterSource.TheVariants.{Constant}
 use Rattle.site.specs.Fields.{at}
 use Rattle.exposure.specs.declared.Exposure.{Exposure}
-use Rattle.card.specs.declared.Value.{Value}
-use Rattle.card.specs.declared.Value.TheVariants.{Missing, Figure}
 use Rattle.card.specs.declared.Card.{Card}
 use Rattle.card.specs.Values.{soil_in, dust_in}
 
 -- a figure that the row gives, or the site file's own at a gap
-abbrev pub or_own : Value → ℕ → ℕ
-or_own Missing own = own
-or_own (Figure n) own = n
+abbrev pub or_own : Option ℕ → ℕ → ℕ
+or_own None own = own
+or_own (Some n) own = n
 
 -- what a row makes of an exposure, whatever its age: its figures, the two modes 0, and all else as it was
 abbrev pub row_exposure : Card → Exposure → Exposure

@@ -1,19 +1,20 @@
 // A card over a site file's fields.
 #![tactic(auto)]
 
-ghost use Rattle.std.specs.Prelude.{◌≡◌, false, ◌+◌, ◌≤◌, ◌<◌, set};
-ghost use Rattle.site.specs.Fields.{ages, field_count, at, limits};
+ghost use Rattle.std.specs.Prelude.{◌≡◌, false, ◌+◌, ◌≤◌, ◌<◌};
+ghost use Rattle.site.specs.Fields.{field_count, at, limits};
 ghost use Rattle.site.specs.Put.{put_from};
-ghost use Rattle.card.specs.declared.RowRead.TheVariants.{Accepted};
+ghost use Rattle.card.specs.RowRead.{Accepted};
 ghost use Rattle.card.specs.Row.{read_kept};
 ghost use Rattle.cardsite.specs.Over.{over, over_limit};
-ghost use Rattle.cardsite.specs.Start.{start_of};
-ghost use Rattle.cardsite.specs.Fields.{given, media_fields, row_fields, row_scenario};
+ghost use Rattle.cardsite.specs.Start.{start_of, start_with};
+ghost use Rattle.cardsite.specs.Fields.{given, row_fields, row_scenario};
 
-use card::{Card, RowRead, Value};
+use card::Card;
 use lines::RowText;
+use refusal::Refusal;
 use site::limits::LIMITS;
-use site::places::FIELDS;
+use site::places::{AGES, FIELDS};
 use site::{Scenario, places};
 
 pub mod exposures; // exposures.rt: what a row makes of an exposure
@@ -26,154 +27,89 @@ const ABSORBED_SOIL: usize = places::ABSORBED + 3;
 // "Both modes are 0 even at a gap": dust is a given figure, and water a constant one.
 const BOTH_MODES: u32 = 0;
 
-// A card's figure over its limit.
-const OVER_LIMIT: u32 = 7;
-
-// What becomes of a row before it is run over the files.
-#[derive(Clone, Copy)]
-pub enum Start {
-    Runs(Card),
-    Skipped,
-    Refused(u32),
-}
-
 // Is a figure over the limit of the field at a place?
-fn over(place: usize, v: Value) -> bool
+#[tactic(auto, unfolding(site::specs::Fields::limits))]
+fn over(place: usize, figure: Option<u64>) -> bool
     requires { place < field_count }
-    ensures { result ≡ over (at limits place) v }
+    ensures { result ≡ over (at limits place) figure }
 {
-    match v {
-        Value::Missing => false,
-        Value::Figure(n) => {
-            let limit = LIMITS[place] as u64;
-            limit < n
-        }
-    }
+    let limit = LIMITS[place] as u64;
+    figure.is_some_and(|n| limit < n)
 }
 
-// Is one of the card's figures over its site limit? The row is then refused with 7.
-fn over_limit(card: Card) -> bool
-    ensures { result ≡ over_limit card }
+// Is one of the card's figures over its site limit?
+#[tactic(auto, unfolding(crate::specs::Over::over_limit))]
+fn over_limit(card: &Card) -> bool
+    ensures { result ≡ over_limit card.now }
 {
-    let soil = card.soil;
-    let dust = card.dust;
-    let water = card.water;
-    let air = card.air;
-    let other = card.other;
-    let abssoil = card.abssoil;
-    let absdust = card.absdust;
-    if over(places::SOIL, soil) {
-        return true;
-    }
-    if over(places::DUST, dust) {
-        return true;
-    }
-    if over(places::CONSTANT, water) {
-        return true;
-    }
-    if over(places::AIR, air) {
-        return true;
-    }
-    if over(places::ALTERNATE, other) {
-        return true;
-    }
-    if over(ABSORBED_SOIL, abssoil) {
-        return true;
-    }
-    over(ABSORBED_DUST, absdust)
+    over(places::SOIL, card.soil)
+        || over(places::DUST, card.dust)
+        || over(places::CONSTANT, card.water)
+        || over(places::AIR, card.air)
+        || over(places::ALTERNATE, card.other)
+        || over(ABSORBED_SOIL, card.abssoil)
+        || over(ABSORBED_DUST, card.absdust)
 }
 
-// A figure, where one is given, at every age of the group from a place on.
-fn every_age_given(fields: &mut [u32; FIELDS], group: usize, v: Value)
-    requires { (group + ages ≤ field_count) × (over (at limits group) v ≡ false) }
-    ensures { fields.new ≡ given (put_from group ages) v fields.old }
+// A figure, where one is given, at each of so many places from one on.
+#[tactic(auto, using(crate::proofs::Limited::within_small))]
+fn put_given(fields: &mut [u32; FIELDS], from: usize, count: usize, figure: Option<u64>)
+    requires { (from + count ≤ field_count) × (from < field_count) × (over (at limits from) figure ≡ false) }
+    ensures { fields.new ≡ given (put_from from count) figure fields.old }
 {
-    match v {
-        Value::Missing => {}
-        Value::Figure(n) => site::put::every_age(fields, group, n as u32),
+    if let Some(n) = figure {
+        site::put::figure_from(fields, from, count, n as u32);
     }
-}
-
-// A figure, where one is given, at one place.
-fn singly_given(fields: &mut [u32; FIELDS], place: usize, v: Value)
-    requires { (place < field_count) × (over (at limits place) v ≡ false) }
-    ensures { fields.new ≡ given (λ n l. set l place n) v fields.old }
-{
-    match v {
-        Value::Missing => {}
-        Value::Figure(n) => site::put::singly(fields, place, n as u32),
-    }
-}
-
-// The card's figures of what is eaten and breathed, over a site file's fields.
-fn put_media(card: Card, fields: &mut [u32; FIELDS])
-    requires { over_limit card ≡ false }
-    ensures { fields.new ≡ media_fields card fields.old }
-{
-    let soil = card::soil_of(card);
-    let dust = card::dust_of(card);
-    let air = card.air;
-    let other = card.other;
-    let water = card.water;
-    every_age_given(fields, places::SOIL, soil);
-    every_age_given(fields, places::DUST, dust);
-    every_age_given(fields, places::AIR, air);
-    every_age_given(fields, places::ALTERNATE, other);
-    singly_given(fields, places::CONSTANT, water);
 }
 
 // A card over a site file's fields, with both modes 0.
-fn put_row(card: Card, fields: &mut [u32; FIELDS])
-    requires { over_limit card ≡ false }
-    ensures { fields.new ≡ row_fields card fields.old }
+#[tactic(auto, using(crate::proofs::Limited::within), unfolding(crate::specs::Fields::row_fields, crate::specs::Fields::media_fields, site::specs::Put::put_from))]
+fn put_row(card: &Card, fields: &mut [u32; FIELDS])
+    requires { over_limit card.now ≡ false }
+    ensures { fields.new ≡ row_fields card.now fields.old }
 {
-    let abssoil = card.abssoil;
-    let absdust = card.absdust;
-    put_media(card, fields);
-    singly_given(fields, ABSORBED_SOIL, abssoil);
-    singly_given(fields, ABSORBED_DUST, absdust);
-    site::put::singly(fields, places::DUST_MODE, BOTH_MODES);
-    site::put::singly(fields, places::WATER_MODE, BOTH_MODES);
+    put_given(fields, places::SOIL, AGES, card.soil_or_dust());
+    put_given(fields, places::DUST, AGES, card.dust_or_soil());
+    put_given(fields, places::AIR, AGES, card.air);
+    put_given(fields, places::ALTERNATE, AGES, card.other);
+    put_given(fields, places::CONSTANT, 1, card.water);
+    put_given(fields, ABSORBED_SOIL, 1, card.abssoil);
+    put_given(fields, ABSORBED_DUST, 1, card.absdust);
+    fields[places::DUST_MODE] = BOTH_MODES;
+    fields[places::WATER_MODE] = BOTH_MODES;
 }
 
 // The scenario of a row: that of its fields, with the diets that the files give.
-pub fn row_scenario(card: Card, scenario: Scenario) -> Scenario
-    requires { over_limit card ≡ false }
-    ensures { result ≡ row_scenario card scenario }
+#[tactic(auto, unfolding(crate::specs::Fields::row_scenario, site::specs::Scenario::scenario_of))]
+pub fn row_scenario(card: &Card, scenario: &Scenario) -> Scenario
+    requires { over_limit card.now ≡ false }
+    ensures { result ≡ row_scenario card.now scenario.now }
 {
-    let diets = scenario.diets;
     let mut fields = scenario.fields;
     put_row(card, &mut fields);
     let own = site::scenario_of(fields);
-    let dust_source = own.dust_source;
-    let water_source = own.water_source;
     Scenario {
-        fields,
-        diets,
-        dust_source,
-        water_source,
+        diets: scenario.diets,
+        ..own
     }
 }
 
-// What becomes of a card: a skip, then its own 7.
-pub fn start_card(card: Card) -> Start
-    ensures { result ≡ start_of (Accepted card) }
+// What becomes of a card before it is run over the files: no card where it is skipped, then its own 7.
+pub fn start_card(card: &Card) -> Result<Option<Card>, Refusal>
+    ensures { start_with result ≡ start_of (Accepted card.now) }
 {
-    if card::skipped(card) {
-        return Start::Skipped;
+    if card.is_skipped() {
+        return Ok(None);
     }
     if over_limit(card) {
-        return Start::Refused(OVER_LIMIT);
+        return Err(Refusal::FieldOutsideLimits);
     }
-    Start::Runs(card)
+    Ok(Some(*card))
 }
 
 // What becomes of a row: 12, then what becomes of its card.
-pub fn start_row(row: RowText) -> Start
-    ensures { result ≡ start_of (read_kept row) }
+pub fn start_row(row: &RowText) -> Result<Option<Card>, Refusal>
+    ensures { start_with result ≡ start_of (read_kept row.now) }
 {
-    match card::read_card(row) {
-        RowRead::Accepted(card) => start_card(card),
-        RowRead::Refused(number) => Start::Refused(number),
-    }
+    start_card(&Card::read(row)?)
 }

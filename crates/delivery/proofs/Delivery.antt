@@ -42,7 +42,7 @@ use Rattle.lines.proofs.LineStarts as starts-of-lines
 use Rattle.lines.proofs.Worked as texts
 use Rattle.figures.proofs.Written as written
 use Rattle.figures.proofs.Only as only
-use Rattle.card.specs.declared.RowRead.{RowRead}
+use Rattle.card.specs.RowRead.{RowRead}
 use Rattle.card.proofs.Rows as card
 use Rattle.site.proofs.PutFits as put
 use Rattle.cardsite.proofs.Starts as starts

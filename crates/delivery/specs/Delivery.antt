@@ -30,7 +30,7 @@ use Rattle.printout.specs.Bench as lines
 use Rattle.lines.specs.Laws as texts
 use Rattle.lines.specs.Bench as worked_texts
 use Rattle.figures.specs.Laws as figures
-use Rattle.card.specs.declared.RowRead.{RowRead}
+use Rattle.card.specs.RowRead.{RowRead}
 use Rattle.card.specs.Laws as card
 use Rattle.cardsite.specs.Laws as cardsite
 use Rattle.cardsite.specs.Bench as worked_rows

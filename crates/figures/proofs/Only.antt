@@ -14,8 +14,7 @@ use Rattle.text.specs.Decimal.{digit}
 use Rattle.text.specs.Laws.{value_from}
 use Rattle.numbers.specs.Lists.{Each}
 use Rattle.numbers.proofs.Every.{and_both}
-use Rattle.figures.specs.declared.Reading.{Reading}
-use Rattle.figures.specs.declared.Reading.TheVariants.{Missing, Figure, Wrong}
+use Rattle.figures.specs.Reading.{Reading, Missing, Figure, Wrong}
 use Rattle.figures.specs.Figure.{is_digit, digits_from, whole_of, times, plus, fraction_of, up_to, thousandths_of, is_star, plain_field, figure_field}
 use Rattle.figures.specs.Laws.{IsWhole, WholeLaw, pointed, IsFigure, FigureLaw}
 use Rattle.figures.proofs.Points.{up_take}

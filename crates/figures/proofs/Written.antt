@@ -14,7 +14,7 @@ use Rattle.text.specs.Decimal.{digit, decimal}
 use Rattle.text.specs.Laws.{value_from}
 use Rattle.text.proofs.DecimalIsWritten.{decimal_law}
 use Rattle.numbers.specs.Lists.{Each}
-use Rattle.figures.specs.declared.Reading.TheVariants.{Figure}
+use Rattle.figures.specs.Reading.{Figure}
 use Rattle.figures.specs.Figure.{digits_from, whole_of, fraction_of, up_to, thousandths_of, is_star, plain_field, figure_field}
 use Rattle.figures.specs.Laws.{WrittenLaw, StarLaw}
 

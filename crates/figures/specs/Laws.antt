@@ -5,7 +5,7 @@ use Rattle.text.specs.Characters.{star, point}
 use Rattle.text.specs.Decimal.{digit, decimal}
 use Rattle.text.specs.Laws.{value_from}
 use Rattle.numbers.specs.Lists.{Each}
-use Rattle.figures.specs.declared.Reading.TheVariants.{Missing, Figure}
+use Rattle.figures.specs.Reading.{Missing, Figure}
 use Rattle.figures.specs.Figure.{decimals, plain_field, figure_field}
 
 -- a number below 10^10, whole and with one, two and three decimals, and an asterisk

@@ -18,9 +18,8 @@ use Rattle.child.specs.declared.Course.{Course}
 use Rattle.child.specs.Course.{course_at}
 use Rattle.card.specs.Row.{read_row}
 use Rattle.card.specs.Values.{months_of}
-use Rattle.cardsite.specs.declared.Start.{Start}
-use Rattle.cardsite.specs.declared.Start.TheVariants as start
-use Rattle.cardsite.specs.Start.{start_of}
+use Rattle.cardsite.specs.Start.{Start, start_of}
+use Rattle.cardsite.specs.Start as start
 use Rattle.cardsite.specs.Fields.{row_scenario}
 use Rattle.lines.specs.Text.{lines_of}
 use Rattle.roll.specs.declared.RowsTaken.{RowsTaken}

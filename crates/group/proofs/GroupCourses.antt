@@ -23,8 +23,8 @@ use Rattle.child.proofs.MonthAnswers.{limits-at}
 use Rattle.child.proofs.CourseMonths.{course_born_same, course_month_given}
 use Rattle.card.specs.declared.Card.{Card}
 use Rattle.card.specs.Values.{months_of}
-use Rattle.cardsite.specs.declared.Start.{Start}
-use Rattle.cardsite.specs.declared.Start.TheVariants as start
+use Rattle.cardsite.specs.Start.{Start}
+use Rattle.cardsite.specs.Start as start
 use Rattle.cardsite.specs.Fields.{row_scenario}
 use Rattle.cardsite.specs.RowExposure.{row_exposure}
 use Rattle.cardsite.specs.Laws.{Running}

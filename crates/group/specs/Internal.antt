@@ -13,8 +13,8 @@ use Rattle.child.specs.Course.{course_at}
 use Rattle.child.specs.Internal.{MonthLimits}
 use Rattle.card.specs.declared.Card.{Card}
 use Rattle.card.specs.Values.{months_of}
-use Rattle.cardsite.specs.declared.Start.{Start}
-use Rattle.cardsite.specs.declared.Start.TheVariants as start
+use Rattle.cardsite.specs.Start.{Start}
+use Rattle.cardsite.specs.Start as start
 use Rattle.cardsite.specs.Fields.{row_scenario}
 use Rattle.cardsite.specs.RowExposure.{row_exposure}
 use Rattle.roll.specs.Words.{rows_a_group, start_at}

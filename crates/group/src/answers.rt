@@ -1,13 +1,14 @@
 // The answers of a group in words, a pair for each row.
 ghost use Rattle.std.specs.Prelude.{◌≡◌, List, map, ℕ, ◌≤◌, ◌<◌, length};
 ghost use Rattle.numbers.specs.Parts.{placed};
-ghost use Rattle.cardsite.specs.declared.Start.{Start};
+ghost use Rattle.cardsite.specs.Start.{Start};
 ghost use Rattle.survey.specs.declared.RowAnswer.TheVariants.{Refused};
+ghost use Rattle.roll.specs.Read.{start_read};
 ghost use Rattle.roll.specs.Words.{rows_a_group, roll_words, starts_in};
 ghost use Rattle.group.specs.Group.{words_an_answer, answers_long, answer_words, answered};
 ghost use Rattle.group.specs.Internal.{end_answer, end_answers, answer_in, answer_at};
 
-use cardsite::Start;
+use card::Card;
 use child::Course;
 use roll::GROUP_ROWS;
 use survey::RowAnswer;
@@ -55,13 +56,13 @@ fn put_answer(answers: &mut [u32], i: usize, answer: RowAnswer)
 }
 
 // What a row answers whose course is at its end.
-fn answer_of(start: Start, course: Course) -> RowAnswer
-    ensures { result ≡ end_answer start course }
+fn answer_of(start: &Result<Option<Card>, u32>, course: Course) -> RowAnswer
+    ensures { result ≡ end_answer (start_read start.now) course }
 {
     match start {
-        Start::Runs(_) => survey::course_answer(course),
-        Start::Skipped => RowAnswer::Skipped,
-        Start::Refused(number) => RowAnswer::Refused(number),
+        Ok(Some(_)) => survey::course_answer(course),
+        Ok(None) => RowAnswer::Skipped,
+        Err(number) => RowAnswer::Refused(*number),
     }
 }
 
@@ -87,7 +88,7 @@ pub fn put_courses(roll: &[u32], courses: [Course; GROUP_ROWS], count: usize, an
     while i < count {
         let start = roll::start_at(roll, i);
         let course = courses[i];
-        let answer = answer_of(start, course);
+        let answer = answer_of(&start, course);
         put_answer(answers, i, answer);
         i = i + 1;
     }

@@ -7,18 +7,18 @@ ghost use Rattle.book.specs.Book.{table_numbers};
 ghost use Rattle.files.specs.Files.{files_if, files_decodes};
 ghost use Rattle.steps.specs.Steps.{steps_a_day};
 ghost use Rattle.card.specs.declared.Card.{Card};
-ghost use Rattle.cardsite.specs.declared.Start.TheVariants.{Runs};
+ghost use Rattle.cardsite.specs.Start.{Runs};
 ghost use Rattle.cardsite.specs.Laws.{Running};
 ghost use Rattle.cardsite.specs.RowExposure.{row_exposure};
 ghost use Rattle.child.specs.Internal.{MonthLimits};
 ghost use Rattle.survey.specs.Internal.{Ready};
 ghost use Rattle.roll.specs.Words.{rows_a_group, roll_words};
+ghost use Rattle.roll.specs.Read.{start_read};
 ghost use Rattle.group.specs.Group.{answered, roll_answers, group_answers, group_read};
 ghost use Rattle.group.specs.Internal.{until_of, course_by, GroupMonth, MonthFor, LastMonth, CoursesRun};
 
 use book::TABLE_NUMBERS;
 use card::Card;
-use cardsite::Start;
 use child::Course;
 use exposure::Exposure;
 use roll::{GROUP_ROWS, ROLL_WORDS};
@@ -36,13 +36,12 @@ pub struct GroupRead {
 }
 
 // How many months a row is run: up to its AGE, and none if it is skipped or refused.
-fn until(start: Start) -> u64
-    ensures { result ≡ until_of start }
+fn until(start: &Result<Option<Card>, u32>) -> u64
+    ensures { result ≡ until_of (start_read start.now) }
 {
     match start {
-        Start::Runs(card) => card::age_of(card),
-        Start::Skipped => 0,
-        Start::Refused(_) => 0,
+        Ok(Some(card)) => card.months(),
+        Ok(None) | Err(_) => 0,
     }
 }
 
@@ -62,7 +61,7 @@ fn last_month(roll: &[u32], count: usize) -> u64
     let mut i: usize = 0;
     while i < count {
         let start = roll::start_at(roll, i);
-        let months = until(start);
+        let months = until(&start);
         last = later(last, months);
         i = i + 1;
     }
@@ -71,17 +70,17 @@ fn last_month(roll: &[u32], count: usize) -> u64
 
 // A month more of a card's course after the months done: past its AGE it rests, and so it does if it is refused.
 fn card_month(
-    card: Card,
+    card: &Card,
     course: Course,
     done: u64,
     exposure: Exposure,
     row: Row,
     weight24: u64,
 ) -> Course
-    requires { MonthLimits (row_exposure card exposure) row weight24 }
-    ensures { (scenario : Scenario) (table : List ℕ) → GroupMonth scenario table done exposure row weight24 → Running card → course ≡ course_by steps_a_day scenario table (Runs card) done → result ≡ course_by steps_a_day scenario table (Runs card) (done + 1) }
+    requires { MonthLimits (row_exposure card.now exposure) row weight24 }
+    ensures { (scenario : Scenario) (table : List ℕ) → GroupMonth scenario table done exposure row weight24 → Running card.now → course ≡ course_by steps_a_day scenario table (Runs card.now) done → result ≡ course_by steps_a_day scenario table (Runs card.now) (done + 1) }
 {
-    let age = card::age_of(card);
+    let age = card.months();
     if age <= done {
         return course;
     }
@@ -90,21 +89,21 @@ fn card_month(
 }
 
 // A month more of a row's course: a skipped or refused row rests.
+#[tactic(auto, unfolding(crate::specs::Internal::course_by))]
 fn row_month(
-    start: Start,
+    start: &Result<Option<Card>, u32>,
     course: Course,
     done: u64,
     exposure: Exposure,
     row: Row,
     weight24: u64,
 ) -> Course
-    requires { MonthFor start exposure row weight24 }
-    ensures { (scenario : Scenario) (table : List ℕ) → GroupMonth scenario table done exposure row weight24 → ((c : Card) → start ≡ Runs c → Running c) → course ≡ course_by steps_a_day scenario table start done → result ≡ course_by steps_a_day scenario table start (done + 1) }
+    requires { MonthFor (start_read start.now) exposure row weight24 }
+    ensures { (scenario : Scenario) (table : List ℕ) → GroupMonth scenario table done exposure row weight24 → ((c : Card) → start_read start.now ≡ Runs c → Running c) → course ≡ course_by steps_a_day scenario table (start_read start.now) done → result ≡ course_by steps_a_day scenario table (start_read start.now) (done + 1) }
 {
     match start {
-        Start::Runs(card) => card_month(card, course, done, exposure, row, weight24),
-        Start::Skipped => course,
-        Start::Refused(_) => course,
+        Ok(Some(card)) => card_month(card, course, done, exposure, row, weight24),
+        Ok(None) | Err(_) => course,
     }
 }
 
@@ -128,7 +127,7 @@ fn courses_of(scenario: Scenario, table: &[u32], roll: &[u32], count: usize) -> 
         while i < count {
             let start = roll::start_at(roll, i);
             let course = courses[i];
-            let next = row_month(start, course, done, exposure, row, weight24);
+            let next = row_month(&start, course, done, exposure, row, weight24);
             courses[i] = next;
             i = i + 1;
         }

@@ -182,7 +182,7 @@ fn read_next_piece<R: Print + Eprint + Alloc, F: Read>(
 // Prints a line for each row of a text. A proved loop has to end, and nothing says that a file does: the pieces are counted down from a number
 // that no file reaches.
 fn print_rows<R: Print + Eprint + Alloc, F: Read>(rt: &R, site: &[u8], book: &[u8], file: &mut F) {
-    let mut reader = lines::start();
+    let mut reader = Reader::before_text();
     let mut roll = [0u32; ROLL_WORDS];
     let mut count: usize = 0;
     let mut pieces = u64::MAX;

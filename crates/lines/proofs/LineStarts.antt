@@ -11,7 +11,7 @@ use lib.Dec.{eqb}
 use Rattle.text.specs.Characters.{line_feed}
 use Rattle.lines.specs.declared.RowText.{RowText}
 use Rattle.lines.specs.declared.Reader.{Reader}
-use Rattle.lines.specs.declared.Walk.{Walk}
+use Rattle.lines.specs.Walk.{Walk}
 use Rattle.lines.specs.Text.{in_front, pieces, lines_of, line_start}
 use Rattle.lines.specs.Stream.{row_start, ends, next_of, after, ended, last}
 use Rattle.lines.specs.Walk.{past_row_end, byte_then, walk_of, row_in}

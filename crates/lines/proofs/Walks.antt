@@ -9,7 +9,7 @@ use native.Mathlib.Numerals.{add-one}
 use lib.ListN.{length, drop_of_length-le, get_or, drop}
 use lib.Seq.{drop-cons}
 use Rattle.lines.specs.declared.Reader.{Reader}
-use Rattle.lines.specs.declared.Walk.{Walk}
+use Rattle.lines.specs.Walk.{Walk}
 use Rattle.lines.specs.Stream.{ends, next_of, ended}
 use Rattle.lines.specs.Walk.{past_row_end, byte_then, walk_of}
 use Rattle.lines.specs.Laws.{Walked}
@@ -17,11 +17,6 @@ use Rattle.lines.specs.Laws.{Walked}
 -- a walk with n bytes before it
 abbrev pub bytes_then : ℕ → Walk → Walk
 bytes_then n w = record { used = w.used + n; ended = w.ended; row = w.row; reader = w.reader }
-
-pub none_before : (w : Walk) → bytes_then 0 w ≡ w
-none_before w =
-    let none : w.used + 0 ≡ w.used = omega arith in
-    ap (λ (n : ℕ). record { used = n; ended = w.ended; row = w.row; reader = w.reader }) none
 
 -- a loop over the bytes of a piece: what is left from place i is walked as the whole was
 module _ (r : Reader) (piece : List ℕ) (i : ℕ) (inside : i < length piece) where
@@ -39,10 +34,11 @@ module _ (r : Reader) (piece : List ℕ) (i : ℕ) (inside : i < length piece) w
       let one : (u : ℕ) → suc u + i ≡ u + suc i = λ (u : ℕ). omega arith in rw (drop-cons piece i 0 inside, e, next, add-one, one)
 
 pub walk-stops :
-    (r : Reader) (piece : List ℕ) (i : ℕ) → length piece ≤ i
-    → bytes_then i (walk_of r (drop i piece)) ≡ record { used = i; ended = false; row = r.row; reader = r }
+    (r : Reader) (piece : List ℕ) (i : ℕ) → i ≤ length piece → length piece ≤ i
+    → bytes_then i (walk_of r (drop i piece)) ≡ record { used = length piece; ended = false; row = r.row; reader = r }
 unfolding walk_of
-walk-stops r piece i all = let none : 0 + i ≡ i = omega arith in rw (drop_of_length-le piece all, none)
+walk-stops r piece i within all =
+    let end : 0 + i ≡ length piece = omega arith in rw (drop_of_length-le piece all, end)
 
 -- LAW: a walk passes the rows of its piece one by one
 module _ (b : ℕ) (bs : List ℕ) (r : Reader) (rest : Walked (next_of r b) bs (walk_of (next_of r b) bs)) where

@@ -5,7 +5,7 @@ use mathlib.Core.List.{List, [], ◌∷◌, ◌++◌, map, foldl}
 use Rattle.text.specs.Characters.{line_feed, space}
 use Rattle.numbers.specs.Lists.{Each}
 use Rattle.lines.specs.declared.Reader.{Reader}
-use Rattle.lines.specs.declared.Walk.{Walk}
+use Rattle.lines.specs.Walk.{Walk}
 use Rattle.lines.specs.Text.{lines_of, line_start, rows_of, fields_of}
 use Rattle.lines.specs.Summary.{summary_of, fed}
 use Rattle.lines.specs.Answers.{answer_of, answer_in}

@@ -1,10 +1,19 @@
 -- The walk through a piece of a text, up to the end of a row.
 -- Assumes nothing.
-use Rattle.std.specs.Prelude.{ℕ, suc, true, false, cond, List, [], ◌∷◌}
+use Rattle.std.specs.Prelude.{ℕ, suc, Bool, true, false, cond, List, [], ◌∷◌}
 use Rattle.lines.specs.declared.RowText.{RowText}
 use Rattle.lines.specs.declared.Reader.{Reader}
-use Rattle.lines.specs.declared.Walk.{Walk}
 use Rattle.lines.specs.Stream.{ends, next_of}
+
+-- where a walk stopped: past the byte that ended a row, or at the end of the piece
+pub record Walk : Type 0 where
+  -- bytes of the piece
+  pub used : ℕ
+  -- a row has ended
+  pub ended : Bool
+  -- that row, or what there is of one that goes on
+  pub row : RowText
+  pub reader : Reader
 
 -- it stops at the end of the piece, or past the byte that ends a row
 abbrev pub at_piece_end : Reader → Walk

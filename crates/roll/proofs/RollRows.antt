@@ -11,7 +11,9 @@ use lib.ListN.{length}
 use Rattle.numbers.proofs.Parts.{placed_same, placed-other, placed_long}
 use Rattle.lines.specs.declared.RowText.{RowText}
 use Rattle.lines.specs.declared.Reader.{Reader}
-use Rattle.lines.specs.declared.Walk.{Walk}
+use Rattle.std.specs.Prelude.{None, Some}
+use Rattle.lines.specs.declared.Passed.{Passed}
+use Rattle.lines.specs.Passed.{walk_with}
 use Rattle.lines.specs.Walk.{walk_of}
 use Rattle.card.specs.Row.{read_kept}
 use Rattle.cardsite.specs.Start.{start_of}
@@ -79,12 +81,12 @@ module _ (n : ℕ) (roll : List ℕ) where
     unfolding enrolled rolled
     next_full h = (rw (le-leb rows_a_group n h), rw (le-leb rows_a_group n h))
 
-    module _ (h : n < rows_a_group) {w : Walk} (ew : w ≡ walk_of r piece) where
-      pub next_row : w.ended ≡ true → {after : List ℕ} → after ≡ with_row n w.row roll
-          → (record { reader = w.reader; used = w.used; count = n + 1 } ≡ enrolled r piece n) × (after ≡ rolled r piece n roll)
+    module _ (h : n < rows_a_group) (p : Passed) (s : Reader) (ew : walk_with p s ≡ walk_of r piece) where
+      pub next_row : (row : RowText) → p.row ≡ Some row → {after : List ℕ} → after ≡ with_row n row roll
+          → (record { reader = s; used = p.used; count = n + 1 } ≡ enrolled r piece n) × (after ≡ rolled r piece n roll)
       unfolding enrolled rolled
-      next_row b e = (rw (lt-leb rows_a_group n h, ← ew, b), rw (lt-leb rows_a_group n h, ← ew, b) e)
+      next_row row b e = (rw (lt-leb rows_a_group n h, ← ew, b), rw (lt-leb rows_a_group n h, ← ew, b) e)
 
-      pub next_none : w.ended ≡ false → (record { reader = w.reader; used = w.used; count = n } ≡ enrolled r piece n) × (roll ≡ rolled r piece n roll)
+      pub next_none : p.row ≡ None → (record { reader = s; used = p.used; count = n } ≡ enrolled r piece n) × (roll ≡ rolled r piece n roll)
       unfolding enrolled rolled
       next_none b = (rw (lt-leb rows_a_group n h, ← ew, b), rw (lt-leb rows_a_group n h, ← ew, b))

@@ -5,23 +5,20 @@ use mathlib.Core.Path.{◌≡◌, refl, sym, ap, ◌∙◌}
 use mathlib.Core.Bool.{Bool, true, false, cond}
 use mathlib.Core.List.{List}
 use native.Mathlib.Omega.{arith}
-use borrow.Author.Tests.{eq-eqb, ne_eqb, ltb-false}
+use borrow.Author.Tests.{ne_eqb, ltb-false}
 use lib.ListN.{length}
 use lib.Dec.{eqb}
 use Rattle.site.specs.Fields.{field_count, at, limits}
 use Rattle.site.proofs.FieldTests.{limit_small}
 use Rattle.lines.specs.declared.RowText.{RowText}
-use Rattle.card.specs.declared.Value.{Value}
-use Rattle.card.specs.declared.Value.TheVariants.{Missing, Figure}
+use Rattle.std.specs.Prelude.{Option, None, Some}
 use Rattle.card.specs.declared.Card.{Card}
-use Rattle.card.specs.declared.RowRead.{RowRead}
-use Rattle.card.specs.declared.RowRead.TheVariants as read
+use Rattle.card.specs.RowRead.{RowRead}
+use Rattle.card.specs.RowRead as read
 use Rattle.card.specs.Row.{read_kept}
 use Rattle.card.specs.Values.{months_of}
-use Rattle.cardsite.specs.declared.Start.{Start}
-use Rattle.cardsite.specs.declared.Start.TheVariants.{Runs, Skipped, Refused}
+use Rattle.cardsite.specs.Start.{Start, Runs, Skipped, Refused, start_of}
 use Rattle.cardsite.specs.Over.{over}
-use Rattle.cardsite.specs.Start.{start_of}
 use Rattle.cardsite.specs.Laws.{Running}
 use Rattle.cardsite.proofs.Limited.{own_within}
 use Rattle.cardsite.proofs.Starts.{runs_within}
@@ -30,21 +27,18 @@ use Rattle.roll.specs.Internal.{FitsWords}
 use Rattle.roll.specs.Laws.{WordsLaw}
 
 -- a word is a gap or a figure
-pub value_gap : (w : ℕ) → w ≡ gap_word → Missing ≡ value_in w
-value_gap w e = rw (eq-eqb w gap_word e)
-
-pub value_figure : (w : ℕ) → (w ≡ gap_word → ⊥) → Figure w ≡ value_in w
+pub value_figure : (w : ℕ) → (w ≡ gap_word → ⊥) → Some w ≡ value_in w
 value_figure w n = rw (ne_eqb w gap_word n)
 
 -- a value that is not over its limit, as a word
 module _ (place : ℕ) (h : place < field_count) where
-  value_fits : (v : Value) → over (at limits place) v ≡ false → word_of v ≤ gap_word
-  value_fits Missing e = omega arith
-  value_fits (Figure n) e = omega (arith, limit_small place h, ltb-false (at limits place) n e)
+  value_fits : (v : Option ℕ) → over (at limits place) v ≡ false → word_of v ≤ gap_word
+  value_fits None e = omega arith
+  value_fits (Some n) e = omega (arith, limit_small place h, ltb-false (at limits place) n e)
 
-  value_back : (v : Value) → over (at limits place) v ≡ false → value_in (word_of v) ≡ v
-  value_back Missing e = refl
-  value_back (Figure n) e = sym (value_figure n (λ z. absurd (omega (arith, limit_small place h, ltb-false (at limits place) n e))))
+  value_back : (v : Option ℕ) → over (at limits place) v ≡ false → value_in (word_of v) ≡ v
+  value_back None e = refl
+  value_back (Some n) e = sym (value_figure n (λ z. absurd (omega (arith, limit_small place h, ltb-false (at limits place) n e))))
 
 -- a card that runs fits its words
 pub running_fits : (c : Card) → Running c → FitsWords c
@@ -62,9 +56,9 @@ running_fits c run =
     }
 
 -- and is the card that they are
-age_back : (v : Value) → 1 ≤ months_of v → Figure (months_of v) ≡ v
-age_back Missing h = absurd (omega arith)
-age_back (Figure n) h = refl
+age_back : (v : Option ℕ) → 1 ≤ months_of v → Some (months_of v) ≡ v
+age_back None h = absurd (omega arith)
+age_back (Some n) h = refl
 
 card_back : (c : Card) → Running c → card_in (card_words c) ≡ c
 unfolding card_in card_words
@@ -80,20 +74,6 @@ card_back c run =
       value_back _ (omega arith) c.abssoil own.abssoil,
       value_back _ (omega arith) c.absdust own.absdust,
     )
-
--- what nine words say, by their first
-module _ (words : List ℕ) where
-  pub says_card : at words 0 ≡ 0 → start_of (read.Accepted (card_in words)) ≡ start_in words
-  unfolding start_in
-  says_card e = rw e
-
-  pub says_skipped : at words 0 ≡ 1 → Skipped ≡ start_in words
-  unfolding start_in
-  says_skipped e = rw e
-
-  pub says_refused : (at words 0 ≡ 0 → ⊥) → (at words 0 ≡ 1 → ⊥) → Refused (at words 1) ≡ start_in words
-  unfolding start_in
-  says_refused z n = rw (ne_eqb (at words 0) 0 z, ne_eqb (at words 0) 1 n)
 
 -- every card that runs is what becomes of itself
 runs_again : (c : Card) → Running c → start_of (read.Accepted c) ≡ Runs c
@@ -117,13 +97,9 @@ words_long (Runs c) = refl
 words_long Skipped = refl
 words_long (Refused n) = refl
 
--- the words that the code makes, by what becomes of the row
-module _ (kept : RowText) {x : Start} (ex : x ≡ start_of (read_kept kept)) where
-  pub runs_fits : (c : Card) → x ≡ Runs c → FitsWords c
-  runs_fits c e = running_fits c (runs_within (read_kept kept) c (sym ex ∙ e))
-
-  pub words_of_lem : (y : Start) → x ≡ y → start_words y ≡ start_words (start_of (read_kept kept))
-  words_of_lem y e = ap start_words (sym e ∙ ex)
+-- a row's card that runs fits its words
+pub runs_fits : (kept : RowText) (c : Card) → Runs c ≡ start_of (read_kept kept) → FitsWords c
+runs_fits kept c e = running_fits c (runs_within (read_kept kept) c (sym e))
 
 -- a row that runs by its words is a card that runs
 running_words : (words : List ℕ) (c : Card) (zero one : Bool)

@@ -11,7 +11,7 @@ use lib.ListN.{length, take, drop, length-append, length-map, length-drop, drop_
 use lib.Seq.{drop-drop, take_at, take_all, length-take-le}
 use Rattle.lines.specs.declared.RowText.{RowText}
 use Rattle.lines.specs.declared.Reader.{Reader}
-use Rattle.lines.specs.declared.Walk.{Walk}
+use Rattle.lines.specs.Walk.{Walk}
 use Rattle.lines.specs.Text.{lines_of, line_start}
 use Rattle.lines.specs.Summary.{summary_of}
 use Rattle.lines.specs.Stream.{row_start, ended, last}
@@ -21,8 +21,7 @@ use Rattle.lines.proofs.Walks.{walked}
 use Rattle.lines.proofs.LineStarts.{LineWalked, line_walked, rows_left, left_walked}
 use Rattle.card.specs.Row.{read_row, read_kept}
 use Rattle.card.proofs.Rows.{row_read}
-use Rattle.cardsite.specs.declared.Start.{Start}
-use Rattle.cardsite.specs.Start.{start_of}
+use Rattle.cardsite.specs.Start.{Start, start_of}
 use Rattle.roll.specs.declared.Enrolled.{Enrolled}
 use Rattle.roll.specs.Words.{rows_a_group, roll_words, starts_in}
 use Rattle.roll.specs.Enrol.{with_row, enrolled, rolled, count_with_last, rolled_last, group_of}

@@ -1,16 +1,12 @@
 -- The words of a roll: what becomes of up to 64 rows, nine words for each.
 -- Assumes nothing.
-use Rattle.std.specs.Prelude.{ℕ, zero, suc, ◌*◌, cond, List, [], ◌∷◌, ◌++◌, eqb}
+use Rattle.std.specs.Prelude.{ℕ, zero, suc, ◌*◌, cond, List, [], ◌∷◌, ◌++◌, eqb, Option, None, Some}
 use Rattle.numbers.specs.Parts.{part_at}
 use Rattle.site.specs.Fields.{at}
-use Rattle.card.specs.declared.Value.{Value}
-use Rattle.card.specs.declared.Value.TheVariants.{Missing, Figure}
 use Rattle.card.specs.declared.Card.{Card}
-use Rattle.card.specs.declared.RowRead.TheVariants as read
+use Rattle.card.specs.RowRead as read
 use Rattle.card.specs.Values.{months_of}
-use Rattle.cardsite.specs.declared.Start.{Start}
-use Rattle.cardsite.specs.declared.Start.TheVariants.{Runs, Skipped, Refused}
-use Rattle.cardsite.specs.Start.{start_of}
+use Rattle.cardsite.specs.Start.{Start, Runs, Skipped, Refused, start_of}
 
 -- the rows of a group, the words of a row and of a roll
 abbrev pub rows_a_group : ℕ
@@ -26,12 +22,12 @@ roll_words = words_a_row * rows_a_group
 abbrev pub gap_word : ℕ
 gap_word = 4_294_967_295
 
-abbrev pub word_of : Value → ℕ
-word_of Missing = gap_word
-word_of (Figure n) = n
+abbrev pub word_of : Option ℕ → ℕ
+word_of None = gap_word
+word_of (Some n) = n
 
-abbrev pub value_in : ℕ → Value
-value_in w = cond (eqb w gap_word) Missing (Figure w)
+abbrev pub value_in : ℕ → Option ℕ
+value_in w = cond (eqb w gap_word) None (Some w)
 
 -- a row that runs: 0, its AGE, and its seven figures
 unfoldable pub card_words : Card → List ℕ
@@ -57,7 +53,7 @@ start_words (Refused n) = 2 ∷ n ∷ 0 ∷ 0 ∷ 0 ∷ 0 ∷ 0 ∷ 0 ∷ 0 ∷ 
 unfoldable pub card_in : List ℕ → Card
 card_in words =
     record {
-      age = Figure (at words 1);
+      age = Some (at words 1);
       soil = value_in (at words 2);
       dust = value_in (at words 3);
       water = value_in (at words 4);

@@ -3,15 +3,14 @@
 #![tactic(auto)]
 
 ghost use Rattle.std.specs.Prelude.{◌≡◌, ◌≤◌, ◌<◌, length};
-ghost use Rattle.card.specs.declared.Value.TheVariants.{Figure};
 ghost use Rattle.card.specs.Row.{read_kept};
 ghost use Rattle.cardsite.specs.Start.{start_of};
+ghost use Rattle.roll.specs.Read.{start_read};
 ghost use Rattle.roll.specs.Words.{rows_a_group, words_a_row, roll_words, gap_word, word_of, value_in, card_words, start_words, card_in, start_in, start_at};
 ghost use Rattle.roll.specs.Enrol.{with_row, enrolled, rolled, count_with_last, rolled_last};
 ghost use Rattle.roll.specs.Internal.{FitsWords, TextEnrolled};
 
-use card::{Card, Value};
-use cardsite::Start;
+use card::Card;
 use lines::{Reader, RowText};
 
 // The rows of a group.
@@ -48,70 +47,53 @@ pub struct RowsTaken {
 }
 
 // A figure as a word, or a gap.
-fn word_of(v: Value) -> u32
-    requires { word_of v ≤ gap_word }
-    ensures { result ≡ word_of v }
+fn word_of(figure: Option<u64>) -> u32
+    requires { word_of figure ≤ gap_word }
+    ensures { result ≡ word_of figure }
 {
-    match v {
-        Value::Missing => GAP,
-        Value::Figure(n) => n as u32,
+    match figure {
+        None => GAP,
+        Some(n) => n as u32,
     }
 }
 
-// A word as a figure.
-fn figure_in(word: u32) -> Value
-    ensures { result ≡ Figure word }
-{
-    Value::Figure(word as u64)
-}
-
-// The value that a word is: a figure or a gap.
-fn value_in(word: u32) -> Value
+// The figure that a word is, or none at a gap.
+fn value_in(word: u32) -> Option<u64>
     ensures { result ≡ value_in word }
 {
     if word == GAP {
-        return Value::Missing;
+        return None;
     }
-    figure_in(word)
+    Some(word as u64)
 }
 
 // The words of a card that runs.
-fn card_words(card: Card) -> [u32; ROW_WORDS]
-    requires { FitsWords card }
-    ensures { result ≡ card_words card }
+#[tactic(auto, unfolding(crate::specs::Words::card_words))]
+fn card_words(card: &Card) -> [u32; ROW_WORDS]
+    requires { FitsWords card.now }
+    ensures { result ≡ card_words card.now }
 {
-    let Card {
-        soil,
-        dust,
-        water,
-        air,
-        other,
-        abssoil,
-        absdust,
-        ..
-    } = card;
-    let age = card::age_of(card);
     [
         RUNS,
-        age as u32,
-        word_of(soil),
-        word_of(dust),
-        word_of(water),
-        word_of(air),
-        word_of(other),
-        word_of(abssoil),
-        word_of(absdust),
+        card.months() as u32,
+        word_of(card.soil),
+        word_of(card.dust),
+        word_of(card.water),
+        word_of(card.air),
+        word_of(card.other),
+        word_of(card.abssoil),
+        word_of(card.absdust),
     ]
 }
 
 // The words of a row, by what becomes of it.
-fn row_words(row: RowText) -> [u32; ROW_WORDS]
-    ensures { result ≡ start_words (start_of (read_kept row)) }
+fn row_words(row: &RowText) -> [u32; ROW_WORDS]
+    ensures { result ≡ start_words (start_of (read_kept row.now)) }
 {
     match cardsite::start_row(row) {
-        Start::Runs(card) => card_words(card),
-        Start::Skipped => [SKIPPED, 0, 0, 0, 0, 0, 0, 0, 0],
-        Start::Refused(number) => [REFUSED, number, 0, 0, 0, 0, 0, 0, 0],
+        Ok(Some(card)) => card_words(&card),
+        Ok(None) => [SKIPPED, 0, 0, 0, 0, 0, 0, 0, 0],
+        Err(refusal) => [REFUSED, refusal.number(), 0, 0, 0, 0, 0, 0, 0],
     }
 }
 
@@ -128,9 +110,9 @@ fn put_words(place: &mut [u32], words: [u32; ROW_WORDS])
 }
 
 // Puts a row on the roll.
-fn put_row(roll: &mut [u32], i: usize, row: RowText)
+fn put_row(roll: &mut [u32], i: usize, row: &RowText)
     requires { (length roll.old ≡ roll_words) × (i < rows_a_group) }
-    ensures { roll.new ≡ with_row i row roll.old }
+    ensures { roll.new ≡ with_row i row.now roll.old }
 {
     let start = ROW_WORDS * i;
     let end = start + ROW_WORDS;
@@ -139,12 +121,13 @@ fn put_row(roll: &mut [u32], i: usize, row: RowText)
 }
 
 // The card that a row's words are.
+#[tactic(auto, unfolding(crate::specs::Words::card_in))]
 fn card_in(words: &[u32]) -> Card
     requires { length words.now ≡ words_a_row }
     ensures { result ≡ card_in words.now }
 {
     Card {
-        age: figure_in(words[1]),
+        age: Some(words[1] as u64),
         soil: value_in(words[2]),
         dust: value_in(words[3]),
         water: value_in(words[4]),
@@ -155,26 +138,28 @@ fn card_in(words: &[u32]) -> Card
     }
 }
 
-// What becomes of a row, by its words. Words that no row gave are checked as a card is.
-fn start_in(words: &[u32]) -> Start
+// What becomes of a row, by its words: no card where it is skipped. Words that no row gave are checked as a card is; a number among them may be any,
+// so a refusal is a number here.
+#[tactic(auto, unfolding(crate::specs::Words::start_in))]
+fn start_in(words: &[u32]) -> Result<Option<Card>, u32>
     requires { length words.now ≡ words_a_row }
-    ensures { result ≡ start_in words.now }
+    ensures { start_read result ≡ start_in words.now }
 {
     let kind = words[0];
     if kind == RUNS {
         let card = card_in(words);
-        return cardsite::start_card(card);
+        return Ok(cardsite::start_card(&card)?);
     }
     if kind == SKIPPED {
-        return Start::Skipped;
+        return Ok(None);
     }
-    Start::Refused(words[1])
+    Err(words[1])
 }
 
 // What becomes of row i of a roll.
-pub fn start_at(roll: &[u32], i: usize) -> Start
+pub fn start_at(roll: &[u32], i: usize) -> Result<Option<Card>, u32>
     requires { (length roll.now ≡ roll_words) × (i < rows_a_group) }
-    ensures { result ≡ start_at roll.now i }
+    ensures { start_read result ≡ start_at roll.now i }
 {
     let start = ROW_WORDS * i;
     let end = start + ROW_WORDS;
@@ -198,22 +183,23 @@ pub fn enrol_next(
             count,
         };
     }
-    let walk = lines::piece::to_row_end(reader, piece);
-    let next = walk.reader;
+    let mut next = reader;
+    let walk = next.to_row_end(piece);
     let used = walk.used;
-    if walk.ended {
-        let row = walk.row;
-        put_row(roll, count, row);
-        return Enrolled {
+    match walk.row {
+        Some(row) => {
+            put_row(roll, count, &row);
+            Enrolled {
+                reader: next,
+                used,
+                count: count + 1,
+            }
+        }
+        None => Enrolled {
             reader: next,
             used,
-            count: count + 1,
-        };
-    }
-    Enrolled {
-        reader: next,
-        used,
-        count,
+            count,
+        },
     }
 }
 
@@ -227,7 +213,7 @@ pub fn enrol_last(reader: Reader, roll: &mut [u32; ROLL_WORDS], count: usize) ->
     }
     if reader.begun {
         let row = reader.row;
-        put_row(roll, count, row);
+        put_row(roll, count, &row);
         return count + 1;
     }
     count
@@ -238,7 +224,7 @@ pub fn enrol_text(text: &[u8], roll: &mut [u32; ROLL_WORDS]) -> RowsTaken
     ensures { TextEnrolled text.now roll.new result }
 {
     *roll = [0; ROLL_WORDS];
-    let mut reader = lines::row_start();
+    let mut reader = Reader::before_row();
     let mut count: usize = 0;
     let mut at: usize = 0;
     while at < text.len() {

@@ -10,7 +10,7 @@ use Rattle.lines.specs.Summary.{summary_of}
 use Rattle.card.specs.declared.Card.{Card}
 use Rattle.card.specs.Row.{read_row}
 use Rattle.card.specs.Values.{months_of}
-use Rattle.cardsite.specs.declared.Start.TheVariants as start
+use Rattle.cardsite.specs.Start as start
 use Rattle.cardsite.specs.Start.{start_of}
 use Rattle.cardsite.specs.Fields.{row_scenario}
 use Rattle.survey.specs.declared.RowAnswer.{RowAnswer}

@@ -13,7 +13,6 @@ ghost use Rattle.survey.specs.Internal.{Ready};
 
 use book::TABLE_NUMBERS;
 use card::Card;
-use cardsite::Start;
 use child::Course;
 use lines::RowText;
 use site::Scenario;
@@ -41,25 +40,25 @@ pub fn course_answer(course: Course) -> RowAnswer
 }
 
 // What a card answers that is neither refused nor skipped: birth, and the months up to its AGE.
-fn card_answer(card: Card, scenario: Scenario, table: &[u32]) -> RowAnswer
-    requires { (length table.now ≡ table_numbers) × (Ready scenario table.now) × (Running card) }
-    ensures { result ≡ card_answer steps_a_day scenario table.now card }
+fn card_answer(card: &Card, scenario: Scenario, table: &[u32]) -> RowAnswer
+    requires { (length table.now ≡ table_numbers) × (Ready scenario table.now) × (Running card.now) }
+    ensures { result ≡ card_answer steps_a_day scenario table.now card.now }
 {
-    let row = cardsite::row_scenario(card, scenario);
-    let age = card::age_of(card);
+    let row = cardsite::row_scenario(card, &scenario);
+    let age = card.months();
     let course = child::courses::to_month(row, table, age as u32);
     course_answer(course)
 }
 
 // What a row answers that accepted files have.
-fn start_answer(kept: RowText, scenario: Scenario, table: &[u32]) -> RowAnswer
+fn start_answer(kept: &RowText, scenario: Scenario, table: &[u32]) -> RowAnswer
     requires { (length table.now ≡ table_numbers) × (Ready scenario table.now) }
-    ensures { result ≡ start_answer steps_a_day scenario table.now (start_of (read_kept kept)) }
+    ensures { result ≡ start_answer steps_a_day scenario table.now (start_of (read_kept kept.now)) }
 {
     match cardsite::start_row(kept) {
-        Start::Runs(card) => card_answer(card, scenario, table),
-        Start::Skipped => RowAnswer::Skipped,
-        Start::Refused(number) => RowAnswer::Refused(number),
+        Ok(Some(card)) => card_answer(&card, scenario, table),
+        Ok(None) => RowAnswer::Skipped,
+        Err(refusal) => RowAnswer::Refused(refusal.number()),
     }
 }
 
@@ -69,9 +68,9 @@ pub fn kept_answer(
     has_foods: bool,
     foods: &[u8],
     book: &[u8],
-    kept: RowText,
+    kept: &RowText,
 ) -> RowAnswer
-    ensures { result ≡ kept_answer steps_a_day (files_if has_foods site.now foods.now book.now) kept }
+    ensures { result ≡ kept_answer steps_a_day (files_if has_foods site.now foods.now book.now) kept.now }
 {
     let mut table = [0u32; TABLE_NUMBERS];
     let read = files::read_files(site, has_foods, foods, book, &mut table);
@@ -87,6 +86,6 @@ pub fn kept_answer(
 pub fn row_answer(site: &[u8], has_foods: bool, foods: &[u8], book: &[u8], row: &[u8]) -> RowAnswer
     ensures { result ≡ row_answer steps_a_day (files_if has_foods site.now foods.now book.now) row.now }
 {
-    let kept = lines::row_text(row);
-    kept_answer(site, has_foods, foods, book, kept)
+    let kept = RowText::of(row);
+    kept_answer(site, has_foods, foods, book, &kept)
 }

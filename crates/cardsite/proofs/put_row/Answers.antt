@@ -1,21 +1,25 @@
--- `cardsite::put_row` meets its contract: the media, the absorptions, the modes.
+-- `cardsite::put_row` meets its contract: a card's figures are within their limits.
+use mathlib.Core.Path.{ap, ◌∙◌}
 use native.Mathlib.Omega.{arith}
-use Rattle.cardsite.proofs.Limited.{Within, within}
-use Rattle.cardsite.proofs.Putting.{row-are}
+use Rattle.site.specs.Fields.{dust_group}
+use Rattle.cardsite.specs.Over.{over_ages}
+use Rattle.cardsite.proofs.Limited.{within}
 use Rattle.cardsite.proofs.put_row.Goals as goal
-use Rattle.cardsite.proofs.put_row.Goals.{Start}
 
--- the card's figures are within their limits
-passed : (c : Start) → Within c.args.card
-passed c = within c.args.card c.requires
+pub put_given-requires-2 : goal.put_given-requires-2
+put_given-requires-2 c = (omega arith, omega arith, ap (over_ages dust_group) c.dust_or_soil.ensures ∙ (within _ c.requires).dust)
 
-pub singly_given-requires : goal.singly_given-requires
-singly_given-requires c = (omega arith, (passed (goal.at.singly_given-requires c).Start).abssoil)
+pub put_given-requires-3 : goal.put_given-requires-3
+put_given-requires-3 c = (omega arith, omega arith, (within _ c.requires).air)
 
-pub singly_given-requires-2 : goal.singly_given-requires-2
-singly_given-requires-2 c = (omega arith, (passed (goal.at.singly_given-requires-2 c).Start).absdust)
+pub put_given-requires-4 : goal.put_given-requires-4
+put_given-requires-4 c = (omega arith, omega arith, (within _ c.requires).other)
 
-pub returns : goal.returns
-returns c =
-    row-are c.args.card c.args.fields.now c.put_media.ensures c.singly_given.ensures
-    c.singly_given-2.ensures c.singly.ensures c.singly-2.ensures
+pub put_given-requires-5 : goal.put_given-requires-5
+put_given-requires-5 c = (omega arith, omega arith, (within _ c.requires).water)
+
+pub put_given-requires-6 : goal.put_given-requires-6
+put_given-requires-6 c = (omega arith, omega arith, (within _ c.requires).abssoil)
+
+pub put_given-requires-7 : goal.put_given-requires-7
+put_given-requires-7 c = (omega arith, omega arith, (within _ c.requires).absdust)

@@ -1,11 +1,8 @@
 -- `figures::whole` meets its contract.
-use Prim.Native.Nat.{◌-◌, ◌≤◌}
+use Prim.Native.Nat.{◌≤◌}
 use lib.ListN.{length}
 use Rattle.figures.proofs.Figures.{InWhole}
 use Rattle.figures.proofs.whole.Given as goal
 
-abbrev pub invariant-loop-i : goal.invariant-loop-i
-invariant-loop-i l = InWhole l.s l.n l.i × (length l.s ≤ 8)
-
-abbrev pub decreases-loop-i : goal.decreases-loop-i
-decreases-loop-i l = length l.s - l.i
+abbrev pub invariant-loop-digit : goal.invariant-loop-digit
+invariant-loop-digit l = InWhole l.digits l.n l.digit-index × (length l.digits ≤ 8)

@@ -9,14 +9,14 @@ returns-then-count-ge-GROUP_ROWS c =
     next_full _ _ _ _ (omega (arith, c.if-count-ge-GROUP_ROWS.true)) in
     record { value = whole.0; roll_after = whole.1 }
 
-pub returns-then-walk : goal.returns-then-walk
-returns-then-walk c =
+pub returns-in-Some : goal.returns-in-Some
+returns-in-Some c =
     let whole =
-    next_row _ _ _ _ c.if-count-ge-GROUP_ROWS.false c.to_row_end-walk.ensures c.if-walk.true c.put_row.ensures in
+    next_row _ _ _ _ c.if-count-ge-GROUP_ROWS.false _ _ c.to_row_end-walk.ensures _ c.in-Some.is c.put_row.ensures in
     record { value = whole.0; roll_after = whole.1 }
 
-pub returns : goal.returns
-returns c =
+pub returns-in-None : goal.returns-in-None
+returns-in-None c =
     let whole =
-    next_none _ _ _ _ c.if-count-ge-GROUP_ROWS.false c.to_row_end-walk.ensures c.if-walk.false in
+    next_none _ _ _ _ c.if-count-ge-GROUP_ROWS.false _ _ c.to_row_end-walk.ensures c.in-None.is in
     record { value = whole.0; roll_after = whole.1 }

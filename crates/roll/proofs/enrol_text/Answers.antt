@@ -7,7 +7,7 @@ use Rattle.roll.proofs.TextRows.{text_start, text_next, text_onward, text_within
 use Rattle.roll.proofs.enrol_text.Goals as goal
 
 pub loop-at-init : goal.loop-at-init
-loop-at-init c = text_start _ _ (length-replicate {A = ℕ} roll_words 0) c.row_start-reader.ensures
+loop-at-init c = text_start _ _ (length-replicate {A = ℕ} roll_words 0) c.before_row-reader.ensures
 
 pub returns-then-count-ge-GROUP_ROWS : goal.returns-then-count-ge-GROUP_ROWS
 returns-then-count-ge-GROUP_ROWS c = rows_full c.loop-at.invariant c.if-count-ge-GROUP_ROWS.true

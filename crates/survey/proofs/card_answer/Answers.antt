@@ -8,5 +8,5 @@ to_month-course-requires c = (c.requires.0, rw c.row_scenario-row.ensures (row_d
 
 pub returns : goal.returns
 returns c =
-    card-answered steps_a_day _ _ _ c.row_scenario-row.ensures c.age_of-age.ensures c.to_month-course.ensures
+    card-answered steps_a_day _ _ _ c.row_scenario-row.ensures c.months-age.ensures c.to_month-course.ensures
     c.course_answer.ensures

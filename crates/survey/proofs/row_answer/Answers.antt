@@ -5,4 +5,4 @@ use Rattle.survey.proofs.RowLaws.{kept_law}
 use Rattle.survey.proofs.row_answer.Goals as goal
 
 pub returns : goal.returns
-returns c = c.kept_answer.ensures ∙ rw c.row_text-kept.ensures (kept_law steps_a_day _ _)
+returns c = c.kept_answer.ensures ∙ rw c.of-kept.ensures (kept_law steps_a_day _ _)

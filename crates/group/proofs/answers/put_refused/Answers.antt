@@ -1,5 +1,5 @@
 -- `group::answers::put_refused` meets its contract: the rows so far are refused, whatever they are.
-use Rattle.cardsite.specs.declared.Start.{Start}
+use Rattle.cardsite.specs.Start.{Start}
 use Rattle.survey.specs.declared.RowAnswer.TheVariants.{Refused}
 use Rattle.group.proofs.AnswerWords.{none_answered, next-answered}
 use Rattle.group.proofs.GroupAnswers.{starts_none, starts_more}

@@ -1,7 +1,7 @@
 -- `group::answers::put_refused` meets its contract: the rows so far are refused, whatever they are.
 use Prim.Native.Nat.{ℕ, ◌-◌}
 use mathlib.Core.List.{List, map}
-use Rattle.cardsite.specs.declared.Start.{Start}
+use Rattle.cardsite.specs.Start.{Start}
 use Rattle.survey.specs.declared.RowAnswer.TheVariants.{Refused}
 use Rattle.roll.specs.Words.{starts_in}
 use Rattle.group.proofs.AnswerWords.{Answering}

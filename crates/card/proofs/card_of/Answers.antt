@@ -1,7 +1,0 @@
--- `card::card_of` meets its contract.
-use Rattle.card.specs.Row.{card_in}
-use Rattle.card.proofs.card_of.Goals as goal
-
-pub returns : goal.returns
-unfolding card_in
-returns c = cc
