@@ -84,6 +84,7 @@ impl<const N: usize> Line<N> {
         self.put_digit(n % 10);
     }
 
+    #[tactic(auto, using(std::proofs::Common::append_assoc), unfolding(crate::specs::Figure::figure))]
     // A blood figure in ug/dL: the whole part, a point and one decimal.
     pub fn put_figure(&mut self, blood: u32)
         requires { length self.old + 12 ≤ N }
