@@ -38,8 +38,8 @@ fn put_least(line: &mut Line<LINE_BYTES>, figure: Figure)
     put_blanks(line, end);
 }
 
-#[tactic(auto, using(std::proofs::Common::append_assoc), unfolding(crate::specs::Leaflet::figure_line))]
 // The line of a figure: its label, its least and its most.
+#[tactic(auto, using(std::proofs::Common::append_assoc), unfolding(crate::specs::Leaflet::figure_line))]
 pub fn figure_line(label: &[u8; LABEL_BYTES], figure: Figure) -> Line<LINE_BYTES>
     ensures { result ≡ figure_line label.now figure.number }
 {
@@ -51,8 +51,8 @@ pub fn figure_line(label: &[u8; LABEL_BYTES], figure: Figure) -> Line<LINE_BYTES
     line
 }
 
-#[tactic(auto, using(std::proofs::Common::append_assoc), unfolding(crate::specs::Leaflet::rule_line))]
 // The line of a rule: its words, and its number at their end.
+#[tactic(auto, using(std::proofs::Common::append_assoc), unfolding(crate::specs::Leaflet::rule_line))]
 pub fn rule_line(words: &[u8], number: u64) -> Line<LINE_BYTES>
     requires { (number < 1_000_000_000_000) × (length words.now ≤ words_most) }
     ensures { result ≡ rule_line words.now number }

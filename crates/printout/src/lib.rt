@@ -24,8 +24,8 @@ pub struct Prepared {
     pub blood: [u32; MONTHS], // thousandths of ug/dL, of the months done
 }
 
-#[tactic(auto, unfolding(crate::specs::Lines::prepared_of))]
 // Runs the two files, of any length and content.
+#[tactic(auto, unfolding(crate::specs::Lines::prepared_of))]
 pub fn prepare(site: &[u8], book: &[u8]) -> Prepared
     ensures { result ≡ prepared_of (files_of site.now book.now) }
 {

@@ -15,8 +15,8 @@ fn flag_of(blood: u32) -> u8
     if blood > LEVEL { b'W' } else { b'-' }
 }
 
-#[tactic(auto, using(std::proofs::Common::append_assoc), unfolding(crate::specs::Printout::month_line))]
 // A month's line: month, figure and mark, parted by single spaces.
+#[tactic(auto, using(std::proofs::Common::append_assoc), unfolding(crate::specs::Printout::month_line))]
 pub fn month_line(month: u32, blood: u32) -> Line<LINE_BYTES>
     ensures { result ≡ month_line month blood }
 {
@@ -30,8 +30,8 @@ pub fn month_line(month: u32, blood: u32) -> Line<LINE_BYTES>
     line
 }
 
-#[tactic(auto, using(std::proofs::Common::append_assoc), unfolding(crate::specs::Printout::refused_line))]
 // The last line of a refused run: the refusal's number and the months done.
+#[tactic(auto, using(std::proofs::Common::append_assoc), unfolding(crate::specs::Printout::refused_line))]
 pub fn refused_line(refusal: u32, months: u32) -> Line<LINE_BYTES>
     ensures { result ≡ refused_line refusal months }
 {

@@ -61,6 +61,3 @@ tenth_short n fits = rw (tenth_nine n fits) (digits_length 9 (n / 10))
 
 pub decimal_last : (n : ℕ) → n < 10_000_000_000 → 10 ≤ n → decimal n ≡ decimal (n / 10) ++ (digit (n % 10) ∷ [])
 decimal_last n fits h = rw (tenth_nine n fits) (digits_last 9 n h)
-
-pub decimal_short : (n : ℕ) → length (decimal n) ≤ 10
-decimal_short n = digits_length 10 n

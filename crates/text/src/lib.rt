@@ -1,4 +1,5 @@
-// Text in fixed memory: bytes, words, decimal numbers and blood figures, put one after the other. Writing by `Display` could fail.
+// Text in fixed memory: bytes, words, decimal numbers and blood figures, put one after the other. Not by `Display`: a `write!` may fail, and these
+// cannot.
 #![tactic(auto)]
 
 ghost use Rattle.std.specs.Prelude.{◌≡◌, ℕ, ◌+◌, ◌≤◌, ◌<◌, List, [], ◌∷◌, ◌++◌, length, take};
@@ -84,8 +85,8 @@ impl<const N: usize> Line<N> {
         self.put_digit(n % 10);
     }
 
-    #[tactic(auto, using(std::proofs::Common::append_assoc), unfolding(crate::specs::Figure::figure))]
     // A blood figure in ug/dL: the whole part, a point and one decimal.
+    #[tactic(auto, using(std::proofs::Common::append_assoc), unfolding(crate::specs::Figure::figure))]
     pub fn put_figure(&mut self, blood: u32)
         requires { length self.old + 12 ≤ N }
         ensures bytes { self.new ≡ self.old ++ figure blood }
