@@ -5,11 +5,9 @@ use mathlib.Core.Path.{◌≡◌, refl, sym, ap, ap₂, ◌∙◌}
 use mathlib.Core.List.{List, [], ◌∷◌, ◌++◌, map, append-nil, append_assoc}
 use native.Mathlib.Omega.{arith}
 use lib.ListN.{length, take, drop}
-use Rattle.files.specs.Files.{Files, files_decodes}
+use Rattle.files.specs.Files.{Files}
 use Rattle.files.proofs.Decodes as files
 use Rattle.steps.specs.Steps.{steps_a_day}
-use Rattle.text.specs.Internal.{Put}
-use Rattle.text.proofs.Puts.{put_line}
 use Rattle.lines.specs.declared.RowText.{RowText}
 use Rattle.lines.specs.declared.Reader.{Reader}
 use Rattle.lines.specs.Text.{in_front, rows_of}
@@ -28,8 +26,8 @@ use Rattle.group.specs.Group.{answered, roll_answers}
 use Rattle.group.specs.Internal.{answer_at}
 use Rattle.group.proofs.GroupAnswers.{starts_map, answer_at_is}
 use Rattle.cardline.specs.Cardline.{row_line, joined, card_printout}
-use Rattle.cardline.specs.Groups.{group_lines, lines_read, pieces_rows, groups_with, groups_of, kept_lines, printed}
-use Rattle.cardline.specs.Internal.{group_bytes, lines_in}
+use Rattle.cardline.specs.Groups.{group_lines, pieces_rows, groups_with, groups_of, kept_lines, printed}
+use Rattle.cardline.specs.Internal.{lines_in}
 use Rattle.cardline.specs.Laws.{GroupLaw, GroupsLaw, PiecesLaw, DecodesLaw}
 
 -- lines after lines
@@ -58,15 +56,12 @@ module _ (f : Files) (roll : List ℕ) where
       ∙ joined-append (map row_line (map answer (starts_in n roll))) (row_line (answer (start_at roll n)) ∷ [])
       ∙ ap (joined (map row_line (map answer (starts_in n roll))) ++◌) (append-nil (row_line (answer (start_at roll n)))))
 
-  pub group_put : (count : ℕ) (lent : List ℕ) {n : ℕ} {answers before after : List ℕ} {bytes decodes : ℕ} → n ≡ min count rows_a_group → answers ≡ answered (roll_answers steps_a_day f count roll) lent
-      → decodes ≡ files_decodes f → Put before 0 (lines_in n answers) group_bytes after bytes → length before ≡ group_bytes
-      → (record { bytes = bytes; decodes = decodes } ≡ lines_read f count roll) × (after ≡ group_lines f count roll ++ drop (length (group_lines f count roll)) before)
+  pub group_put : (count : ℕ) (lent : List ℕ) {n : ℕ} {answers : List ℕ} → n ≡ min count rows_a_group → answers ≡ answered (roll_answers steps_a_day f count roll) lent
+      → lines_in n answers ≡ group_lines f count roll
   unfolding group_lines roll_answers
-  group_put count lent {n} {answers} en ea ed put long =
+  group_put count lent {n} {answers} en ea =
       let here : answers ≡ answered (map answer (starts_in n roll)) lent = ea ∙ ap (λ k. answered (map answer (starts_in k roll)) lent) (sym en) in
-      let lines : group_lines f count roll ≡ lines_in n answers = ap (λ k. joined (map row_line (map answer (starts_in k roll)))) (sym en) ∙ sym (lines_are n answers (answer_at_is answer roll n lent here)) in
-      let line = put_line lines put (omega arith) in
-      (ap₂ (λ b d. record { bytes = b; decodes = d }) line.0 ed, line.1)
+      lines_are n answers (answer_at_is answer roll n lent here) ∙ ap (λ k. joined (map row_line (map answer (starts_in k roll)))) en
 
 -- LAW: the rows of a group are printed as each is alone
 kept_answers : (f : Files) (rows : List RowText) → map row_line (map (files_then steps_a_day f) (map (λ (kept : RowText). start_of (read_kept kept)) rows)) ≡ map (λ (kept : RowText). row_line (kept_answer steps_a_day f kept)) rows

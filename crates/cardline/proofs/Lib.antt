@@ -1,4 +1,3 @@
 pub mod CardBench
 pub mod FirstBytes
-pub mod RowLines
 pub mod GroupLines

@@ -2,12 +2,13 @@
 // left to the program.
 #![tactic(auto)]
 
-ghost use Rattle.std.specs.Prelude.{◌≡◌, ◌++◌, length, drop};
+ghost use Rattle.std.specs.Prelude.{◌≡◌, length};
 ghost use Rattle.files.specs.Files.{files_of};
 ghost use Rattle.cardline.specs.Groups.{group_lines, lines_read};
 
 use group::answers::WORDS;
 use roll::{GROUP_ROWS, ROLL_WORDS};
+use text::Line;
 
 mod rows; // rows.rt: the lines of answers
 
@@ -17,27 +18,19 @@ const LINE_BYTES: usize = 19;
 // Bytes that the lines of a group fit in.
 pub const GROUP_BYTES: usize = GROUP_ROWS * LINE_BYTES;
 
-// What putting the lines of a group answers.
-#[derive(Clone, Copy)]
-pub struct LinesRead {
-    pub bytes: usize, // of the lines
-    pub decodes: u32, // of blocks of the book
-}
-
-// Puts the lines of a roll's rows at the start of the target, and keeps the bytes past them.
+// Puts the lines of a roll's rows in place of what stood there, and answers how many blocks of the book were decoded.
 pub fn put_lines(
     site: &[u8],
     book: &[u8],
     roll: &[u32; ROLL_WORDS],
     count: usize,
-    target: &mut [u8; GROUP_BYTES],
-) -> LinesRead
-    ensures value { result ≡ lines_read (files_of site.now book.now) count roll.now }
-    ensures target_after { target.new ≡ group_lines (files_of site.now book.now) count roll.now ++ drop (length (group_lines (files_of site.now book.now) count roll.now)) target.old }
+    lines: &mut Line<GROUP_BYTES>,
+) -> u32
+    ensures bytes { lines.new ≡ group_lines (files_of site.now book.now) count roll.now }
+    ensures value { record { bytes = length lines.new; decodes = result } ≡ lines_read (files_of site.now book.now) count roll.now }
 {
     let mut answers = [0u32; WORDS];
     let decodes = group::answer_roll(site, false, &site[..0], book, roll, count, &mut answers);
-    let lines = group::rows_of(count);
-    let bytes = rows::put_rows(target, &answers, lines);
-    LinesRead { bytes, decodes }
+    rows::put_rows(lines, &answers, group::rows_of(count));
+    decodes
 }

@@ -1,11 +1,32 @@
-// What the programs need of the system beside opening files and printing: reading the start of an input, and telling why they stop.
+// What the programs need of the system beside printing: reading files, or the start of an input, and telling why they stop.
 #![tactic(auto)]
 
 ghost use Rattle.std.specs.Prelude.{◌≡◌, ◌≤◌, length, take};
 ghost use Rattle.std.specs.Io.KnownBytes.{Consumes};
 
+use std::fs::File;
 use std::io;
 use std::io::{Error, Read};
+use std::rt::Files;
+
+// What is read of a site file or a book: a byte more than its format has, so that a longer file has a wrong length and is not read whole.
+pub const SITE_READ: usize = site::SITE_BYTES + 1;
+
+pub const BOOK_READ: usize = book::BOOK_BYTES + 1;
+
+// Reads what the buffer holds of a file. One that is missing or cannot be opened counts as empty; if reading fails, what was read until then counts
+// as the file.
+pub fn read_file<'a>(rt: &impl Files, path: &str, buffer: &'a mut [u8]) -> &'a [u8]
+    ensures { length result.now ≤ length buffer.old }
+{
+    match File::open(rt, path) {
+        Ok(mut file) => {
+            let bytes = read_full(&mut file, buffer);
+            &buffer[..bytes]
+        }
+        Err(_) => &buffer[..0],
+    }
+}
 
 // Reads until the buffer is full, the input ends or a read fails, and answers how many bytes came.
 pub fn read_full<R: Read>(input: &mut R, buffer: &mut [u8]) -> usize

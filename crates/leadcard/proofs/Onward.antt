@@ -1,6 +1,6 @@
 -- Reading on with room on the roll uses bytes of its piece, at least one if there is one, and leads on as the piece does.
 -- Assumes nothing.
-use Rattle.std.proofs.Common.{◌≡◌, ◌∙◌, ℕ, ◌+◌, ◌≤◌, ◌<◌, List, arith, length, take, drop, length-drop, drop-drop, take_all}
+use Rattle.std.proofs.Common.{◌≡◌, ◌∙◌, ℕ, ◌-◌, ◌≤◌, ◌<◌, List, arith, length, take, drop, length-drop, take_all}
 use borrow.Author.Tests.{lt-leb}
 use Rattle.lines.specs.declared.Reader.{Reader}
 use Rattle.lines.specs.Stream.{after}
@@ -24,10 +24,12 @@ module _ (r : Reader) (piece : List ℕ) (n : ℕ) (room : n < rows_a_group) {re
   leads_on : after read.reader (drop read.used piece) ≡ after r piece
   leads_on = rw walk_is (walked r piece).leads
 
--- what is left of the piece from place i on, handed on as k bytes, leads where the piece led
-pub still_leads :
-    (r : Reader) (piece : List ℕ) (i k n : ℕ) → n < rows_a_group → {read : Enrolled} → read ≡ enrolled r (take k (drop i piece)) n → length piece ≤ i + k
-    → after read.reader (drop (i + read.used) piece) ≡ after r (drop i piece)
-still_leads r piece i k n room {read} is all =
-    let rest : take k (drop i piece) ≡ drop i piece = take_all k (drop i piece) (rw length-drop (omega arith)) in
-    rw (← drop-drop read.used i piece) (leads_on r (drop i piece) n room (rw rest at is))
+  -- what is left of the piece, of which there is less
+  pub left_is : take (length piece - read.used) (drop read.used piece) ≡ drop read.used piece
+  left_is = take_all _ _ (rw length-drop (omega arith))
+
+  pub left_smaller : 0 < length piece → length (take (length piece - read.used) (drop read.used piece)) < length piece
+  left_smaller some = rw (left_is, length-drop) (omega (arith, used_within, used_onward some))
+
+  pub left_leads : {here : Reader} → here ≡ read.reader → after here (take (length piece - read.used) (drop read.used piece)) ≡ after r piece
+  left_leads same = rw (left_is, same) leads_on

@@ -5,7 +5,7 @@ use Prim.Native.Nat.{ℕ, suc, ◌+◌, ◌-◌, ◌*◌, ◌≤◌, ◌<◌}
 use native.Mathlib.Decide.{dec_lt}
 use native.Mathlib.Omega.{arith}
 use borrow.Author.Tests.{lt-ltb, le-ltb}
-use Rattle.site.specs.Fields.{ages, groups, singles_at, field_count, at, limits}
+use Rattle.site.specs.Fields.{ages, groups, singles_at, at, limits}
 use Rattle.site.proofs.PutFits.{group_limit}
 use Rattle.leaflet.specs.Figures.{figures, place_of, most_of}
 use Rattle.leaflet.specs.Internal.{MostOf}
@@ -26,13 +26,6 @@ next_place figure h =
     ]
 
 module _ (figure : ℕ) (one : figure < figures) where
-  pub place_below : place_of figure < field_count
-  place_below =
-      elim (dec_lt figure groups) [
-        | yes h ↦ omega (arith, by_age_lem figure h)
-        | no h ↦ omega (arith, singly figure (omega arith))
-      ]
-
   each_limit : (place : ℕ) → place_of figure ≤ place → place < place_of (suc figure) → at limits place ≡ most_of figure
   each_limit place a b =
       elim (dec_lt figure groups) [

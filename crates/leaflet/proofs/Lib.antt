@@ -1,4 +1,3 @@
 pub mod Threes
-pub mod Blanks
 pub mod FigureFields
 pub mod PageLines

@@ -9,11 +9,8 @@ use native.Mathlib.Omega.{arith}
 use borrow.Author.Tests.{lt-ltb, le-ltb}
 use lib.ListN.{length, length-append}
 use Rattle.text.specs.Decimal.{decimal}
-use Rattle.text.specs.Internal.{Put}
 use Rattle.text.proofs.Digits.{digits_length}
-use Rattle.text.proofs.Puts.{put_then, put_as}
 use Rattle.leaflet.specs.Grouped.{last_three, grouped_within, grouped}
-use Rattle.leaflet.specs.Internal.{grouped_most}
 
 -- a number below 1,000 has no comma; a larger one is that of its thousands, and the last three digits
 groups_one : (k n : ℕ) → n < 1_000 → grouped_within (suc k) n ≡ decimal n
@@ -47,21 +44,17 @@ groups_enough (suc k) n h =
           ∙ sym (groups-last (suc k) n (omega arith))
     ]
 
-pub grouped_one : (n : ℕ) → n < 1_000 → decimal n ≡ grouped n
-grouped_one n h = sym (groups_one 3 n h)
+-- a number below 10^12 with its commas: its decimal digits, or its thousands, in 18 bytes at most, and the last three digits
+pub grouped_one : (n : ℕ) → n < 1_000 → grouped n ≡ decimal n
+grouped_one n h = groups_one 3 n h
 
--- four threes hold a number below 10^12, and three its thousands
-module _ (n : ℕ) (fits : n < 1_000_000_000_000) where
-  thousands : grouped (n / 1_000) ≡ grouped_within 3 (n / 1_000)
-  thousands =
-      let few : n / 1_000 < 1_000_000_000 = omega arith in
-      groups_enough 2 (n / 1_000) few
+thousands : (n : ℕ) → n < 1_000_000_000_000 → grouped (n / 1_000) ≡ grouped_within 3 (n / 1_000)
+thousands n fits =
+    let few : n / 1_000 < 1_000_000_000 = omega arith in
+    groups_enough 2 (n / 1_000) few
 
-  -- the number put: its thousands, and then the last three digits
-  module _ {l m : List ℕ} {i j : ℕ} (f : Put l i (grouped (n / 1_000)) grouped_most m j) where
-    pub thousands_end : j ≤ i + 18
-    thousands_end = omega (arith, f.past, ap length thousands, groups-length 3 (n / 1_000))
+pub thousands_short : (n : ℕ) → n < 1_000_000_000_000 → length (grouped (n / 1_000)) ≤ 18
+thousands_short n fits = rw (thousands n fits) (groups-length 3 (n / 1_000))
 
-    pub put-grouped-last : {a : List ℕ} {e : ℕ} → 1_000 ≤ n → Put m j (last_three n) 4 a e → Put l i (grouped n) grouped_most a e
-    put-grouped-last h g =
-        put_as (put_then f g) (ap (λ (l : List ℕ). l ++ last_three n) thousands ∙ sym (groups-last 3 n h)) (omega (arith, thousands_end, g.small))
+pub grouped_last : (n : ℕ) → n < 1_000_000_000_000 → 1_000 ≤ n → grouped n ≡ grouped (n / 1_000) ++ last_three n
+grouped_last n fits h = rw (thousands n fits) (groups-last 3 n h)

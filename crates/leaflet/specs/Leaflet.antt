@@ -5,10 +5,7 @@ use Rattle.text.specs.Characters.{line_feed, space}
 use Rattle.leaflet.specs.Figures.{least_of, most_of}
 use Rattle.leaflet.specs.Grouped.{grouped}
 
--- bytes of a label, which is name, ages and unit of a figure, and of the column of its least
-abbrev pub label_bytes : ℕ
-label_bytes = 48
-
+-- bytes of the column of a figure's least
 abbrev pub least_bytes : ℕ
 least_bytes = 11
 
@@ -16,7 +13,7 @@ least_bytes = 11
 abbrev pub least_column : ℕ → List ℕ
 least_column figure = grouped (least_of figure) ++ replicate (least_bytes - length (grouped (least_of figure))) space
 
--- the line of a figure
+-- the line of a figure, whose label is its name, ages and unit
 unfoldable pub figure_line : List ℕ → ℕ → List ℕ
 figure_line label figure = label ++ (least_column figure ++ (grouped (most_of figure) ++ (line_feed ∷ [])))
 

@@ -11,35 +11,48 @@ const GROUPS: usize = places::INDOOR / places::AGES;
 
 pub const FIGURES: usize = GROUPS + places::FIELDS - places::INDOOR;
 
-// The first field of a figure.
-fn place_of(figure: usize) -> usize
-    requires { figure < figures }
-    ensures { result ≡ place_of figure }
-{
-    if figure < GROUPS {
-        places::AGES * figure
-    } else {
-        places::INDOOR + (figure - GROUPS)
-    }
+// A figure by its number, in the fields' order.
+#[derive(Clone, Copy, Debug, PartialEq, Eq)]
+pub struct Figure {
+    pub number: usize,
+    ghost within: { number < figures },
 }
 
-// The least of a figure: 0, but for saturation's lower end.
-pub fn least_of(figure: usize) -> u32
-    requires { figure < figures }
-    ensures { result ≡ least_of figure }
-{
-    if place_of(figure) == places::SATURATION {
-        SATURATION_LEAST
-    } else {
-        0
+impl Figure {
+    pub fn new(number: usize) -> Self
+        requires { number < figures }
+        ensures { result.number ≡ number }
+    {
+        Figure { number }
     }
-}
 
-// The most of a figure, at every age.
-pub fn most_of(figure: usize) -> u32
-    requires { figure < figures }
-    ensures { MostOf figure result }
-{
-    let place = place_of(figure);
-    LIMITS[place]
+    // Its first field.
+    fn place(self) -> usize
+        ensures { result ≡ place_of self.number }
+    {
+        if self.number < GROUPS {
+            places::AGES * self.number
+        } else {
+            places::INDOOR + (self.number - GROUPS)
+        }
+    }
+
+    // Its least: 0, but for saturation's lower end.
+    pub fn least(self) -> u32
+        ensures { result ≡ least_of self.number }
+    {
+        if self.place() == places::SATURATION {
+            SATURATION_LEAST
+        } else {
+            0
+        }
+    }
+
+    // Its most, at every age.
+    pub fn most(self) -> u32
+        ensures { MostOf self.number result }
+    {
+        let place = self.place();
+        LIMITS[place]
+    }
 }

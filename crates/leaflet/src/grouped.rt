@@ -1,28 +1,32 @@
 // Numbers with a comma before each three digits.
-ghost use Rattle.std.specs.Prelude.{◌+◌, ◌≤◌, ◌<◌, length};
-ghost use Rattle.text.specs.Internal.{Put};
+ghost use Rattle.std.specs.Prelude.{◌≡◌, ◌+◌, ◌≤◌, ◌<◌, ◌++◌, length};
 ghost use Rattle.leaflet.specs.Grouped.{last_three, grouped};
-ghost use Rattle.leaflet.specs.Internal.{grouped_most};
+ghost use Rattle.leaflet.specs.Internal.{grouped_most, line_bytes};
+
+use super::page::LINE_BYTES;
+use text::Line;
 
 // A comma and the last three digits of a number.
-fn put_last_three(target: &mut [u8], place: usize, n: u64) -> usize
-    requires { place + 4 ≤ length target.old }
-    ensures { Put target.old place (last_three n) 4 target.new result }
+fn put_last_three(line: &mut Line<LINE_BYTES>, n: u64)
+    requires { length line.old + 4 ≤ line_bytes }
+    ensures { line.new ≡ line.old ++ last_three n }
 {
-    let comma_end = text::put_byte(target, place, b',');
-    let hundreds_end = text::put_digit(target, comma_end, n / 100 % 10);
-    let tens_end = text::put_digit(target, hundreds_end, n / 10 % 10);
-    text::put_digit(target, tens_end, n % 10)
+    line.put_byte(b',');
+    line.put_digit(n / 100 % 10);
+    line.put_digit(n / 10 % 10);
+    line.put_digit(n % 10);
 }
 
 // The digits of n / 1,000, with a comma before each three, and then the last three.
-pub fn put_grouped(target: &mut [u8], place: usize, n: u64) -> usize
-    requires { (n < 1_000_000_000_000) × (place + grouped_most ≤ length target.old) }
-    ensures { Put target.old place (grouped n) grouped_most target.new result }
+pub fn put_grouped(line: &mut Line<LINE_BYTES>, n: u64)
+    requires { (n < 1_000_000_000_000) × (length line.old + grouped_most ≤ line_bytes) }
+    ensures bytes { line.new ≡ line.old ++ grouped n }
+    ensures most { length line.new ≤ length line.old + grouped_most }
 {
     if n < 1_000 {
-        return text::put_decimal(target, place, n);
+        line.put_decimal(n);
+        return;
     }
-    let thousands_end = put_grouped(target, place, n / 1_000);
-    put_last_three(target, thousands_end, n)
+    put_grouped(line, n / 1_000);
+    put_last_three(line, n);
 }

@@ -1,12 +1,12 @@
 // A line of the leaflet.
-ghost use Rattle.std.specs.Prelude.{◌≡◌, ◌++◌, ◌-◌, ◌≤◌, ◌<◌, length, drop, replicate};
+ghost use Rattle.std.specs.Prelude.{◌≡◌, ◌+◌, ◌-◌, ◌≤◌, ◌<◌, ◌++◌, length, replicate};
 ghost use Rattle.text.specs.Characters.{space};
-ghost use Rattle.text.specs.Internal.{Put};
-ghost use Rattle.leaflet.specs.Figures.{figures};
-ghost use Rattle.leaflet.specs.Leaflet.{label_bytes, figure_line, rule_line};
-ghost use Rattle.leaflet.specs.Internal.{words_most};
+ghost use Rattle.leaflet.specs.Leaflet.{least_bytes, least_column, figure_line, rule_line};
+ghost use Rattle.leaflet.specs.Internal.{grouped_most, line_bytes, words_most};
 
-use super::{figure, grouped};
+use super::figure::Figure;
+use super::grouped;
+use text::Line;
 
 // Bytes of a figure's label, which is its name, ages and unit, and of the column of its least.
 pub const LABEL_BYTES: usize = 48;
@@ -16,41 +16,50 @@ const LEAST_BYTES: usize = 11;
 // Bytes that every line fits in.
 pub const LINE_BYTES: usize = 96;
 
-// Blanks from a place up to another.
-fn put_blanks(target: &mut [u8], place: usize, end: usize) -> usize
-    requires { (place ≤ end) × (end ≤ length target.old) }
-    ensures { Put target.old place (replicate (end - place) space) (end - place) target.new result }
+// Blanks up to a place.
+fn put_blanks(line: &mut Line<LINE_BYTES>, end: usize)
+    requires { (length line.old ≤ end) × (end ≤ line_bytes) }
+    ensures { line.new ≡ line.old ++ replicate (end - length line.old) space }
 {
-    let mut put = place;
-    while put < end {
-        target[put] = b' ';
-        put = put + 1;
+    for _ in 0..end - line.bytes().len() {
+        line.put_byte(b' ');
     }
-    put
+}
+
+// The column of a figure's least.
+fn put_least(line: &mut Line<LINE_BYTES>, figure: Figure)
+    requires { length line.old + grouped_most ≤ line_bytes }
+    ensures bytes { line.new ≡ line.old ++ least_column figure.number }
+    ensures most { length line.new ≤ length line.old + least_bytes }
+{
+    let least = figure.least();
+    let end = line.bytes().len() + LEAST_BYTES;
+    grouped::put_grouped(line, least as u64);
+    put_blanks(line, end);
 }
 
 // The line of a figure: its label, its least and its most.
-pub fn put_figure(label: &[u8], figure: usize, target: &mut [u8; LINE_BYTES]) -> usize
-    requires { (figure < figures) × (length label.now ≡ label_bytes) }
-    ensures value { result ≡ length (figure_line label.now figure) }
-    ensures target_after { target.new ≡ figure_line label.now figure ++ drop (length (figure_line label.now figure)) target.old }
+#[tactic(auto, using(std::proofs::Common::append_assoc), unfolding(crate::specs::Leaflet::figure_line))]
+pub fn figure_line(label: &[u8; LABEL_BYTES], figure: Figure) -> Line<LINE_BYTES>
+    ensures { result ≡ figure_line label.now figure.number }
 {
-    let least = figure::least_of(figure) as u64;
-    let most = figure::most_of(figure) as u64;
-    let label_end = text::put_text(target, 0, label);
-    let least_end = grouped::put_grouped(target, label_end, least);
-    let blanks_end = put_blanks(target, least_end, LABEL_BYTES + LEAST_BYTES);
-    let most_end = grouped::put_grouped(target, blanks_end, most);
-    text::put_byte(target, most_end, b'\n')
+    let mut line = Line::new();
+    line.put_text(label);
+    put_least(&mut line, figure);
+    grouped::put_grouped(&mut line, figure.most() as u64);
+    line.put_byte(b'\n');
+    line
 }
 
 // The line of a rule: its words, and its number at their end.
-pub fn put_rule(words: &[u8], number: u64, target: &mut [u8; LINE_BYTES]) -> usize
+#[tactic(auto, using(std::proofs::Common::append_assoc), unfolding(crate::specs::Leaflet::rule_line))]
+pub fn rule_line(words: &[u8], number: u64) -> Line<LINE_BYTES>
     requires { (number < 1_000_000_000_000) × (length words.now ≤ words_most) }
-    ensures value { result ≡ length (rule_line words.now number) }
-    ensures target_after { target.new ≡ rule_line words.now number ++ drop (length (rule_line words.now number)) target.old }
+    ensures { result ≡ rule_line words.now number }
 {
-    let words_end = text::put_text(target, 0, words);
-    let number_end = grouped::put_grouped(target, words_end, number);
-    text::put_byte(target, number_end, b'\n')
+    let mut line = Line::new();
+    line.put_text(words);
+    grouped::put_grouped(&mut line, number);
+    line.put_byte(b'\n');
+    line
 }

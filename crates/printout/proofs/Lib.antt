@@ -1,6 +1,5 @@
--- A line's parts, what is kept of a run, and the laws of the printout.
+-- The months of a run, and the laws of the printout.
 pub mod Bench
 pub mod MonthsAtMost
 pub mod FirstBytes
-pub mod LineParts
 pub mod LinesAreWhole

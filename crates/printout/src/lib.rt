@@ -1,11 +1,12 @@
 // What leadline prints, a line at a time, from the bytes of its two files. Reading files and writing bytes is left to the program.
 #![tactic(auto)]
 
-ghost use Rattle.std.specs.Prelude.{◌≡◌, ◌++◌, length, drop, get_or};
+ghost use Rattle.std.specs.Prelude.{◌≡◌, get_or};
 ghost use Rattle.files.specs.Files.{files_of};
 ghost use Rattle.printout.specs.Lines.{prepared_of, line_at};
 
 use child::months::MONTHS;
+use text::Line;
 
 mod lines; // lines.rt: a month's line and the last line
 
@@ -16,7 +17,7 @@ pub const LINE_BYTES: usize = 36;
 pub const LINES: u32 = MONTHS as u32 + 1;
 
 // What is kept of a run for its printout.
-#[derive(Clone, Copy)]
+#[derive(Clone, Copy, Debug, PartialEq, Eq)]
 pub struct Prepared {
     pub refusal: u32,
     pub months: u32,
@@ -24,6 +25,7 @@ pub struct Prepared {
 }
 
 // Runs the two files, of any length and content.
+#[tactic(auto, unfolding(crate::specs::Lines::prepared_of))]
 pub fn prepare(site: &[u8], book: &[u8]) -> Prepared
     ensures { result ≡ prepared_of (files_of site.now book.now) }
 {
@@ -36,31 +38,24 @@ pub fn prepare(site: &[u8], book: &[u8]) -> Prepared
     }
 }
 
-// The figure at place k, 0 past the last place.
-fn figure_at(run: Prepared, k: u32) -> u32
-    ensures { result ≡ get_or run.blood k 0 }
-{
-    let blood = run.blood;
-    let place = k as usize;
-    if place < MONTHS { blood[place] } else { 0 }
-}
+impl Prepared {
+    // The figure at place k, 0 past the last place.
+    fn figure(&self, k: u32) -> u32
+        ensures { result ≡ get_or self.now.blood k 0 }
+    {
+        self.blood.get(k as usize).copied().unwrap_or(0)
+    }
 
-// Puts line k, from 0, at the start of the target, keeps the bytes past it, and answers its length: 0 past the last line.
-pub fn line(run: Prepared, k: u32, target: &mut [u8; LINE_BYTES]) -> usize
-    ensures value { result ≡ length (line_at run k) }
-    ensures target_after { target.new ≡ line_at run k ++ drop (length (line_at run k)) target.old }
-{
-    let months = run.months;
-    if k < months {
-        let blood = figure_at(run, k);
-        return lines::put_month(target, k + 1, blood);
+    // Line k, from 0: no bytes past the last line.
+    pub fn line(&self, k: u32) -> Line<LINE_BYTES>
+        ensures { result ≡ line_at self.now k }
+    {
+        if k < self.months {
+            return lines::month_line(k + 1, self.figure(k));
+        }
+        if k > self.months || self.refusal == 0 {
+            return Line::new();
+        }
+        lines::refused_line(self.refusal, self.months)
     }
-    if k != months {
-        return 0;
-    }
-    let refusal = run.refusal;
-    if refusal == 0 {
-        return 0;
-    }
-    lines::put_refused(target, refusal, months)
 }

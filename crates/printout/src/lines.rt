@@ -1,7 +1,9 @@
 // A month's line, and the last line of a refused run.
-ghost use Rattle.std.specs.Prelude.{◌≡◌, ◌≤◌, length};
-ghost use Rattle.text.specs.Internal.{Put};
+ghost use Rattle.std.specs.Prelude.{◌≡◌};
 ghost use Rattle.printout.specs.Printout.{flag, month_line, refused_line};
+
+use super::LINE_BYTES;
+use text::Line;
 
 // A blood figure over this is marked, thousandths of ug/dL.
 const LEVEL: u32 = 30_000;
@@ -14,26 +16,30 @@ fn flag_of(blood: u32) -> u8
 }
 
 // A month's line: month, figure and mark, parted by single spaces.
-pub fn put_month(target: &mut [u8], month: u32, blood: u32) -> usize
-    requires { 26 ≤ length target.old }
-    ensures { Put target.old 0 (month_line month blood) 26 target.new result }
+#[tactic(auto, using(std::proofs::Common::append_assoc), unfolding(crate::specs::Printout::month_line))]
+pub fn month_line(month: u32, blood: u32) -> Line<LINE_BYTES>
+    ensures { result ≡ month_line month blood }
 {
-    let month_end = text::put_decimal(target, 0, month as u64);
-    let first_space = text::put_byte(target, month_end, b' ');
-    let figure_end = text::put_figure(target, first_space, blood);
-    let second_space = text::put_byte(target, figure_end, b' ');
-    let flag_end = text::put_byte(target, second_space, flag_of(blood));
-    text::put_byte(target, flag_end, b'\n')
+    let mut line = Line::new();
+    line.put_decimal(month as u64);
+    line.put_byte(b' ');
+    line.put_figure(blood);
+    line.put_byte(b' ');
+    line.put_byte(flag_of(blood));
+    line.put_byte(b'\n');
+    line
 }
 
 // The last line of a refused run: the refusal's number and the months done.
-pub fn put_refused(target: &mut [u8], refusal: u32, months: u32) -> usize
-    requires { 36 ≤ length target.old }
-    ensures { Put target.old 0 (refused_line refusal months) 36 target.new result }
+#[tactic(auto, using(std::proofs::Common::append_assoc), unfolding(crate::specs::Printout::refused_line))]
+pub fn refused_line(refusal: u32, months: u32) -> Line<LINE_BYTES>
+    ensures { result ≡ refused_line refusal months }
 {
-    let refused = text::put_text(target, 0, b"refused ");
-    let number = text::put_decimal(target, refused, refusal as u64);
-    let after = text::put_text(target, number, b" after ");
-    let done = text::put_decimal(target, after, months as u64);
-    text::put_byte(target, done, b'\n')
+    let mut line = Line::new();
+    line.put_text(b"refused ");
+    line.put_decimal(refusal as u64);
+    line.put_text(b" after ");
+    line.put_decimal(months as u64);
+    line.put_byte(b'\n');
+    line
 }

@@ -1,7 +1,7 @@
 -- Decimal digits: how many there are at most, and the last one.
 -- Assumes nothing.
 use mathlib.Core.Path.{◌≡◌, sym, ap, ◌∙◌}
-use Prim.Native.Nat.{ℕ, zero, suc, ◌+◌, ◌/◌, ◌%◌, ◌^◌, ◌≤◌, ◌<◌}
+use Prim.Native.Nat.{ℕ, zero, suc, ◌/◌, ◌%◌, ◌^◌, ◌≤◌, ◌<◌}
 use mathlib.Core.List.{List, [], ◌∷◌, ◌++◌}
 use native.Mathlib.Nat.{div-lt_iff_lt-mul, pow-suc}
 use native.Mathlib.Decide.{dec_lt}
@@ -9,8 +9,6 @@ use native.Mathlib.Omega.{arith}
 use borrow.Author.Tests.{lt-ltb, le-ltb}
 use lib.ListN.{length, length-append}
 use Rattle.text.specs.Decimal.{digit, digits_within, decimal}
-use Rattle.text.specs.Internal.{Put}
-use Rattle.text.proofs.Puts.{put_then, put_as}
 
 -- a number below 10 is one digit; a larger one is the digits of its tenth and the last one
 pub digits_one : (k n : ℕ) → n < 10 → digits_within (suc k) n ≡ digit n ∷ []
@@ -49,26 +47,17 @@ digits_enough (suc k) n h =
           ∙ sym (digits_last (suc k) n (omega arith))
     ]
 
-pub decimal_one : (n : ℕ) → n < 10 → digit n ∷ [] ≡ decimal n
-decimal_one n h = sym (digits_one 9 n h)
+-- the digits of a number below 10^10: one, or those of its tenth, nine at most, and the last one
+pub decimal_one : (n : ℕ) → n < 10 → decimal n ≡ digit n ∷ []
+decimal_one n h = digits_one 9 n h
 
--- ten digits hold a number below 10^10, and nine hold its tenth
-module _ (n : ℕ) (fits : n < 10_000_000_000) where
-  tenth_nine : decimal (n / 10) ≡ digits_within 9 (n / 10)
-  tenth_nine =
-      let few : n / 10 < 1_000_000_000 = omega arith in
-      digits_enough 8 (n / 10) few
+tenth_nine : (n : ℕ) → n < 10_000_000_000 → decimal (n / 10) ≡ digits_within 9 (n / 10)
+tenth_nine n fits =
+    let few : n / 10 < 1_000_000_000 = omega arith in
+    digits_enough 8 (n / 10) few
 
-  tenth_short : length (decimal (n / 10)) ≤ 9
-  tenth_short = rw tenth_nine (digits_length 9 (n / 10))
+pub tenth_short : (n : ℕ) → n < 10_000_000_000 → length (decimal (n / 10)) ≤ 9
+tenth_short n fits = rw (tenth_nine n fits) (digits_length 9 (n / 10))
 
-  decimal-last : 10 ≤ n → decimal n ≡ decimal (n / 10) ++ (digit (n % 10) ∷ [])
-  decimal-last h = rw tenth_nine (digits_last 9 n h)
-
-  -- the number's digits put: its tenth's, and then the last one
-  module _ {l m : List ℕ} {i j : ℕ} (f : Put l i (decimal (n / 10)) 10 m j) where
-    pub last_place : j ≤ i + 9
-    last_place = omega (arith, f.past, tenth_short)
-
-    pub put_last : {a : List ℕ} {e : ℕ} → 10 ≤ n → Put m j (digit (n % 10) ∷ []) 1 a e → Put l i (decimal n) 10 a e
-    put_last h g = put_as (put_then f g) (sym (decimal-last h)) (omega (arith, last_place, g.small))
+pub decimal_last : (n : ℕ) → n < 10_000_000_000 → 10 ≤ n → decimal n ≡ decimal (n / 10) ++ (digit (n % 10) ∷ [])
+decimal_last n fits h = rw (tenth_nine n fits) (digits_last 9 n h)

@@ -1,5 +1,3 @@
--- Text put after text, decimal digits, and a blood figure's parts.
+-- Decimal digits.
 pub mod DecimalIsWritten
 pub mod Digits
-pub mod FigureParts
-pub mod Puts

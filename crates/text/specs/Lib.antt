@@ -3,5 +3,4 @@ pub mod Characters
 pub mod Words
 pub mod Decimal
 pub mod Figure
-pub mod Internal
 pub mod Laws

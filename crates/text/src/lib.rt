@@ -1,48 +1,102 @@
-// Bytes, text, decimal numbers and blood figures, put into lent bytes one after the other. Each answers the place past what it put.
+// Text in fixed memory: bytes, words, decimal numbers and blood figures, put one after the other. Not by `Display`: a `write!` may fail, and these
+// cannot.
 #![tactic(auto)]
 
-ghost use Rattle.std.specs.Prelude.{◌≡◌, ◌+◌, ◌≤◌, ◌<◌, [], ◌∷◌, length};
+ghost use Rattle.std.specs.Prelude.{◌≡◌, ℕ, ◌+◌, ◌≤◌, ◌<◌, List, [], ◌∷◌, ◌++◌, length, take};
 ghost use Rattle.text.specs.Decimal.{digit, decimal};
 ghost use Rattle.text.specs.Figure.{tenths, figure};
-ghost use Rattle.text.specs.Internal.{Put};
 
-pub fn put_byte(target: &mut [u8], place: usize, byte: u8) -> usize
-    requires { place < length target.old }
-    ensures { Put target.old place (byte ∷ []) 1 target.new result }
-{
-    target[place] = byte;
-    place + 1
+use std::marker::Model;
+
+// A line of at most N bytes.
+#[derive(Debug, Drop)]
+pub struct Line<const N: usize> {
+    place: [u8; N],
+    put: usize, // bytes of the line, at the front of its place
 }
 
-pub fn put_text(target: &mut [u8], place: usize, text: &[u8]) -> usize
-    requires { place + length text.now ≤ length target.old }
-    ensures { Put target.old place text.now (length text.now) target.new result }
-{
-    let mut put: usize = 0;
-    while put < text.len() {
-        target[place + put] = text[put];
-        put = put + 1;
+// Clauses see its bytes.
+impl<const N: usize> Model for Line<N> {
+    ghost Value = { List ℕ };
+
+    ghost view = { λ line. take line.put line.place };
+
+    ghost invariant = { λ line. line.put ≤ N };
+}
+
+impl<const N: usize> Line<N> {
+    // A line of no bytes.
+    pub fn new() -> Self
+        ensures { result ≡ [] }
+    {
+        Line {
+            place: [0; N],
+            put: 0,
+        }
     }
-    place + put
-}
 
-pub fn put_digit(target: &mut [u8], place: usize, n: u64) -> usize
-    requires { (n < 10) × (place < length target.old) }
-    ensures { Put target.old place (digit n ∷ []) 1 target.new result }
-{
-    put_byte(target, place, b'0' + n as u8)
-}
-
-// The digits of n / 10, and then the last one.
-pub fn put_decimal(target: &mut [u8], place: usize, n: u64) -> usize
-    requires { (n < 10_000_000_000) × (place + 10 ≤ length target.old) }
-    ensures { Put target.old place (decimal n) 10 target.new result }
-{
-    if n < 10 {
-        return put_digit(target, place, n);
+    pub fn bytes(&self) -> &[u8]
+        ensures { result.now ≡ self.now }
+    {
+        &self.place[..self.put]
     }
-    let last = put_decimal(target, place, n / 10);
-    put_digit(target, last, n % 10)
+
+    pub fn clear(&mut self)
+        ensures { self.new ≡ [] }
+    {
+        self.put = 0;
+    }
+
+    pub fn put_byte(&mut self, byte: u8)
+        requires { length self.old < N }
+        ensures { self.new ≡ self.old ++ byte ∷ [] }
+    {
+        self.place[self.put] = byte;
+        self.put += 1;
+    }
+
+    pub fn put_text(&mut self, text: &[u8])
+        requires { length self.old + length text.now ≤ N }
+        ensures { self.new ≡ self.old ++ text.now }
+    {
+        for byte in text {
+            self.put_byte(*byte);
+        }
+    }
+
+    pub fn put_digit(&mut self, n: u64)
+        requires { (n < 10) × (length self.old < N) }
+        ensures { self.new ≡ self.old ++ digit n ∷ [] }
+    {
+        self.put_byte(b'0' + n as u8);
+    }
+
+    // The digits of n / 10, and then the last one.
+    pub fn put_decimal(&mut self, n: u64)
+        requires { (n < 10_000_000_000) × (length self.old + 10 ≤ N) }
+        ensures bytes { self.new ≡ self.old ++ decimal n }
+        ensures most { length self.new ≤ length self.old + 10 }
+    {
+        if n < 10 {
+            self.put_digit(n);
+            return;
+        }
+        self.put_decimal(n / 10);
+        self.put_digit(n % 10);
+    }
+
+    // A blood figure in ug/dL: the whole part, a point and one decimal.
+    #[tactic(auto, using(std::proofs::Common::append_assoc), unfolding(crate::specs::Figure::figure))]
+    pub fn put_figure(&mut self, blood: u32)
+        requires { length self.old + 12 ≤ N }
+        ensures bytes { self.new ≡ self.old ++ figure blood }
+        ensures most { length self.new ≤ length self.old + 12 }
+    {
+        let rounded = tenths_of(blood);
+        self.put_decimal(rounded / 10);
+        self.put_byte(b'.');
+        self.put_digit(rounded % 10);
+    }
 }
 
 // A blood figure, thousandths of ug/dL, in tenths of ug/dL, rounded half up.
@@ -50,15 +104,4 @@ fn tenths_of(blood: u32) -> u64
     ensures { result ≡ tenths blood }
 {
     (blood as u64 + 50) / 100
-}
-
-// A blood figure in ug/dL: the whole part, a point and one decimal.
-pub fn put_figure(target: &mut [u8], place: usize, blood: u32) -> usize
-    requires { place + 12 ≤ length target.old }
-    ensures { Put target.old place (figure blood) 12 target.new result }
-{
-    let rounded = tenths_of(blood);
-    let whole = put_decimal(target, place, rounded / 10);
-    let point = put_byte(target, whole, b'.');
-    put_digit(target, point, rounded % 10)
 }

@@ -1,9 +1,12 @@
--- `cardline::rows::put_rows` meets its contract: the lines so far are those of the first answers.
-use Rattle.cardline.proofs.RowLines.{no_lines, next_line}
+-- `cardline::rows::put_rows` meets its contract: each line put after the one before.
+use Rattle.std.proofs.Common.{rules, arith, add-one}
+use Rattle.cardline.specs.Internal.{lines_in}
 use Rattle.cardline.proofs.rows.put_rows.Goals as goal
 
 pub loop-i-init : goal.loop-i-init
-loop-i-init c = no_lines _ _ _
+unfolding lines_in
+loop-i-init c = search rules
 
 pub loop-i-preserved : goal.loop-i-preserved
-loop-i-preserved c = next_line c.loop-i.invariant c.loop-i-test.true c.answer_at-answer.ensures c.put_row-place.ensures
+unfolding lines_in
+loop-i-preserved c = (rw add-one (search rules), omega (arith, c.put_row.ensures.most, c.loop-i.invariant.1))

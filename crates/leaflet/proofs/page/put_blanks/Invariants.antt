@@ -1,10 +1,7 @@
--- `leaflet::page::put_blanks` meets its contract: the bytes put so far are blanks.
-use Prim.Native.Nat.{◌-◌}
-use Rattle.leaflet.proofs.Blanks.{Blanked}
+-- The bytes put so far are blanks.
+use Rattle.std.proofs.Common.{◌≡◌, ◌++◌, replicate}
+use Rattle.text.specs.Characters.{space}
 use Rattle.leaflet.proofs.page.put_blanks.Given as goal
 
-abbrev pub invariant-loop-put : goal.invariant-loop-put
-invariant-loop-put l = Blanked l.initial.target l.place l.end l.target l.put
-
-abbrev pub decreases-loop-put : goal.decreases-loop-put
-decreases-loop-put l = l.end - l.put
+abbrev pub invariant-loop : goal.invariant-loop
+invariant-loop l = l.line ≡ l.initial.line ++ replicate l.counter space

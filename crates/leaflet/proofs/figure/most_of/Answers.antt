@@ -1,8 +1,0 @@
--- `leaflet::figure::most_of` meets its contract: the limit is the entry of the site's list.
-use Rattle.site.specs.Fields.{limits}
-use Rattle.leaflet.proofs.FigureFields.{most_of_lem}
-use Rattle.leaflet.proofs.figure.most_of.Goals as goal
-
-pub returns : goal.returns
-unfolding limits
-returns c = most_of_lem c.args.figure c.requires c.place_of-place.ensures

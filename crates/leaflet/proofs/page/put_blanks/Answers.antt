@@ -1,6 +1,0 @@
--- `leaflet::page::put_blanks` meets its contract: the bytes put so far are blanks.
-use Rattle.leaflet.proofs.Blanks.{blanks_next}
-use Rattle.leaflet.proofs.page.put_blanks.Goals as goal
-
-pub loop-put-preserved : goal.loop-put-preserved
-loop-put-preserved c = blanks_next c.loop-put.invariant c.loop-put-test.true
