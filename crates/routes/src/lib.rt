@@ -69,14 +69,19 @@ pub fn monthly_sums(site: &[u8], has_foods: bool, foods: &[u8], book: &[u8]) -> 
     ensures { result ≡ monthly_sums (files_if has_foods site.now foods.now book.now) }
 {
     let mut table = [0u32; TABLE_NUMBERS];
-    let read = files::read_files(site, has_foods, foods, book, &mut table);
-    let refusal = read.refusal;
-    let scenario = read.scenario;
+    let mut decodes = 0;
+    let call = files::call_files(site, has_foods, foods, book);
+    let scenario = match call.read(&mut table, &mut decodes) {
+        Ok(scenario) => scenario,
+        Err(_) => {
+            return MonthlySums {
+                passive: [0; MONTHS],
+                active: [0; MONTHS],
+            };
+        }
+    };
     let mut passive = [0u64; MONTHS];
     let mut active = [0u64; MONTHS];
-    if refusal != 0 {
-        return MonthlySums { passive, active };
-    }
     let mut done: usize = 0;
     while done < MONTHS {
         let sums = sums_in(scenario, &table, done as u64 + 1);
