@@ -163,16 +163,15 @@ pub fn answer_roll(
 {
     let rows = rows_of(count);
     let mut table = [0u32; TABLE_NUMBERS];
-    let read = files::read_files(site, has_foods, foods, book, &mut table);
-    let decodes = read.decodes;
-    let refusal = read.refusal;
-    if refusal != 0 {
-        answers::put_refused(refusal, rows, answers);
-        return decodes;
+    let mut decodes = 0;
+    let call = files::call_files(site, has_foods, foods, book);
+    match call.read(&mut table, &mut decodes) {
+        Ok(scenario) => {
+            let courses = courses_of(scenario, &table, roll, rows);
+            answers::put_courses(roll, courses, rows, answers);
+        }
+        Err(refusal) => answers::put_refused(refusal.number(), rows, answers),
     }
-    let scenario = read.scenario;
-    let courses = courses_of(scenario, &table, roll, rows);
-    answers::put_courses(roll, courses, rows, answers);
     decodes
 }
 

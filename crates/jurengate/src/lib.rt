@@ -61,11 +61,15 @@ pub fn jurengate_read_site(site: &[u8], fields: &mut [u32; FIELDS]) -> u32
     ensures value { result ≡ (read_site site.now).refusal }
     ensures fields_after { fields.new ≡ (read_site site.now).scenario.fields }
 {
-    let read = site::read_site(site);
-    let scenario = read.scenario;
-    let read_fields = scenario.fields;
-    *fields = read_fields;
-    read.refusal
+    let of_site = site::read_site(site);
+    match of_site {
+        Ok(scenario) => {
+            let read = scenario.fields;
+            *fields = read;
+        }
+        Err(_) => fields.fill(0),
+    }
+    refusal::number_in(&of_site)
 }
 
 // Reads a rate book: its refusal, and its 85 rows of 23 numbers, zeros if it is refused.
@@ -73,8 +77,9 @@ pub fn jurengate_read_book(book: &[u8], table: &mut [u32; TABLE_NUMBERS]) -> u32
     ensures value { result ≡ book_refusal book.now }
     ensures table_after { table.new ≡ book_table book.now }
 {
-    let of_book = book::read_book(book, table);
-    of_book.refusal
+    let mut decodes = 0;
+    let of_book = book::read_book(book, table, &mut decodes);
+    refusal::number_in(&of_book)
 }
 
 // Reads a foods block: its refusal, and its 128 figures, 105 grams, 15 leads, 4 shares, 4 leads, zeros if it is refused.
@@ -82,8 +87,15 @@ pub fn jurengate_read_foods(foods: &[u8], figures: &mut [u32; FIGURES]) -> u32
     ensures value { result ≡ foods_refusal foods.now }
     ensures figures_after { figures.new ≡ foods_figures foods.now }
 {
-    let of_foods = foods::read_foods(foods, figures);
-    of_foods
+    let of_foods = foods::read_foods(foods);
+    match of_foods {
+        Ok(accepted) => {
+            let read = accepted.figures;
+            *figures = read;
+        }
+        Err(_) => figures.fill(0),
+    }
+    refusal::number_in(&of_foods)
 }
 
 // Writes a body of 508 bytes with its check into a target of 512.
@@ -92,7 +104,7 @@ pub fn jurengate_write_block(body: &[u8], target: &mut [u8]) -> u32
     ensures target_after { target.new ≡ written body.now target.old }
 {
     let of_lengths = block::write::write_block(body, target);
-    of_lengths
+    refusal::number_in(&of_lengths)
 }
 
 // Birth, the month and the run into the memory that a caller lends, with a foods block or without.

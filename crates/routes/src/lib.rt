@@ -69,14 +69,14 @@ pub fn monthly_sums(site: &[u8], has_foods: bool, foods: &[u8], book: &[u8]) -> 
     ensures { by_route result ≡ monthly_sums (files_if has_foods site.now foods.now book.now) }
 {
     let mut table = [0u32; TABLE_NUMBERS];
-    let read = files::read_files(site, has_foods, foods, book, &mut table);
-    let refusal = read.refusal;
-    let scenario = read.scenario;
+    let mut decodes = 0;
+    let call = files::call_files(site, has_foods, foods, book);
     let none = RouteSums::NONE;
     let mut sums = [none; MONTHS];
-    if refusal != 0 {
-        return sums;
-    }
+    let scenario = match call.read(&mut table, &mut decodes) {
+        Ok(scenario) => scenario,
+        Err(_) => return sums,
+    };
     for done in 0..MONTHS {
         sums[done] = sums_in(&scenario, &table, done as u64 + 1);
     }

@@ -73,13 +73,12 @@ pub fn kept_answer(
     ensures { result ≡ kept_answer steps_a_day (files_if has_foods site.now foods.now book.now) kept.now }
 {
     let mut table = [0u32; TABLE_NUMBERS];
-    let read = files::read_files(site, has_foods, foods, book, &mut table);
-    let refusal = read.refusal;
-    if refusal != 0 {
-        return RowAnswer::Refused(refusal);
+    let mut decodes = 0;
+    let call = files::call_files(site, has_foods, foods, book);
+    match call.read(&mut table, &mut decodes) {
+        Ok(scenario) => start_answer(kept, scenario, &table),
+        Err(refusal) => RowAnswer::Refused(refusal.number()),
     }
-    let scenario = read.scenario;
-    start_answer(kept, scenario, &table)
 }
 
 // What a row answers, of its bytes: a line feed is one like others.
