@@ -7,7 +7,7 @@ use super::{COMPARTMENTS, Divisors};
 use row::{Rates, UNIT};
 
 // A month's rates, within their limits, and their divisors.
-#[derive(Clone, Copy, Debug)]
+#[derive(Clone, Copy, Debug, PartialEq, Eq)]
 pub struct MonthRates {
     pub rates: Rates,
     pub divisors: Divisors,

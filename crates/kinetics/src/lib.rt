@@ -4,7 +4,7 @@
 pub mod divisor; // divisor.rt: a month's rates, with the divisors of its steps
 pub mod step; // step.rt: one step (B-8, B-9)
 
-// The number of compartments beside plasma, and the six, in the rates' order.
+// The number of compartments beside plasma, and the six, in the rates' order. No enum: they are places in arrays that loops go over.
 const COMPARTMENTS: usize = 6;
 
 pub const RED_CELLS: usize = 0;

@@ -22,6 +22,7 @@ impl From<[u64; places::ROW_NUMBERS]> for Row {
     ghost from_gives = { λ numbers row. row ≡ row_from numbers };
 
     fn from(numbers: [u64; places::ROW_NUMBERS]) -> Row {
+        // Each rate by its place: tried with `array::from_fn`, and the proof did not close.
         let rates = Rates {
             out: [
                 numbers[places::OUT],
