@@ -28,7 +28,7 @@ pub fn read_file<'a>(rt: &impl Files, path: &str, buffer: &'a mut [u8]) -> &'a [
     }
 }
 
-// Reads until the buffer is full, the input ends or a read fails, and answers how many bytes came.
+// Reads until the buffer is full, the input ends or a read fails, and answers how many bytes came. A step is what a read gives: no index counts it.
 pub fn read_full<R: Read>(input: &mut R, buffer: &mut [u8]) -> usize
     ensures bound { result ≤ length buffer.new }
     ensures same_length { length buffer.new ≡ length buffer.old }

@@ -63,7 +63,7 @@ impl<'a> Survey<'a> {
     }
 
     // Puts the rows that end in a piece on the roll, and prints each group that is full, up to the first that cannot be written, whose error it
-    // answers; then the reader is where the piece leads.
+    // answers; then the reader is where the piece leads. A step goes up to the end of a row: no index counts it.
     fn read_piece(&mut self, rt: &impl Print, piece: &[u8]) -> io::Result<()>
         requires { self.old.count < rows_a_group }
         ensures room { self.new.count < rows_a_group }
