@@ -1,5 +1,5 @@
 -- `site::put::figure_from` meets its contract: the part that is filled holds the figure at each place.
-use Rattle.std.proofs.Common.{ℕ, sym, ap, ◌∙◌, refl, arith, replicate, ◌≡◌, ◌+◌, ◌-◌, length, drop}
+use Rattle.std.proofs.Common.{ℕ, sym, ap, ◌∙◌, arith, replicate, ◌≡◌, ◌+◌, ◌-◌, length, drop}
 use Rattle.std.proofs.lemmas.List.{length-replicate}
 use lib.ListN.{length-drop}
 use lib.Seq.{length-take-le}
