@@ -19,7 +19,7 @@ use Rattle.cardsite.specs.Start.{Start, start_of}
 use Rattle.roll.specs.Words.{rows_a_group, start_at, starts_in}
 use Rattle.roll.specs.Enrol.{with_rows}
 use Rattle.roll.proofs.RollRows.{rolled_rows}
-use Rattle.survey.specs.declared.RowAnswer.{RowAnswer}
+use Rattle.survey.specs.RowAnswer.{RowAnswer}
 use Rattle.survey.specs.Survey.{files_then, row_answer, kept_answer}
 use Rattle.survey.proofs.RowLaws.{kept_law}
 use Rattle.group.specs.Group.{answered, roll_answers}

@@ -10,8 +10,8 @@ use lib.Seq.{take_at, drop_at}
 use Rattle.numbers.specs.Parts.{part_at, placed}
 use Rattle.numbers.proofs.Parts.{placed-next, placed_long}
 use Rattle.site.specs.Fields.{at}
-use Rattle.survey.specs.declared.RowAnswer.{RowAnswer}
-use Rattle.survey.specs.declared.RowAnswer.TheVariants.{Blood, Skipped, Refused}
+use Rattle.survey.specs.RowAnswer.{RowAnswer}
+use Rattle.survey.specs.RowAnswer.{Blood, Skipped, Refused}
 use Rattle.roll.specs.Words.{rows_a_group}
 use Rattle.group.specs.Group.{words_an_answer, answers_long, answer_words, group_words, answered}
 use Rattle.group.specs.Internal.{answer_in}

@@ -27,8 +27,8 @@ use Rattle.roll.specs.Words.{rows_a_group, start_at, starts_in}
 use Rattle.roll.specs.Enrol.{group_of}
 use Rattle.roll.specs.Internal.{TextEnrolled}
 use Rattle.roll.proofs.TextRows.{starts_long}
-use Rattle.survey.specs.declared.RowAnswer.{RowAnswer}
-use Rattle.survey.specs.declared.RowAnswer.TheVariants.{Refused}
+use Rattle.survey.specs.RowAnswer.{RowAnswer}
+use Rattle.survey.specs.RowAnswer.{Refused}
 use Rattle.survey.specs.Survey.{course_answer, card_answer, start_answer, files_then, row_answer}
 use Rattle.group.specs.Group.{words_an_answer, answers_long, answer_words, group_words, answered, group_answers, group_read, roll_answers}
 use Rattle.group.specs.Internal.{until_of, course_by, no_course, CoursesRun, end_answer, end_answers, answer_in, answer_at}

@@ -18,8 +18,8 @@ use Rattle.cardsite.specs.Start as start
 use Rattle.cardsite.specs.Fields.{row_scenario}
 use Rattle.cardsite.specs.RowExposure.{row_exposure}
 use Rattle.roll.specs.Words.{rows_a_group, start_at}
-use Rattle.survey.specs.declared.RowAnswer.{RowAnswer}
-use Rattle.survey.specs.declared.RowAnswer.TheVariants.{Blood, Skipped, Refused}
+use Rattle.survey.specs.RowAnswer.{RowAnswer}
+use Rattle.survey.specs.RowAnswer.{Blood, Skipped, Refused}
 use Rattle.survey.specs.Survey.{course_answer}
 use Rattle.survey.specs.Internal.{Ready}
 use Rattle.group.specs.Group.{words_an_answer}

@@ -2,7 +2,7 @@
 ghost use Rattle.std.specs.Prelude.{◌≡◌, List, map, ℕ, ◌≤◌, ◌<◌, length};
 ghost use Rattle.numbers.specs.Parts.{placed};
 ghost use Rattle.cardsite.specs.Start.{Start};
-ghost use Rattle.survey.specs.declared.RowAnswer.TheVariants.{Refused};
+ghost use Rattle.survey.specs.RowAnswer.{Refused};
 ghost use Rattle.roll.specs.Read.{start_read};
 ghost use Rattle.roll.specs.Words.{rows_a_group, roll_words, starts_in};
 ghost use Rattle.group.specs.Group.{words_an_answer, answers_long, answer_words, answered};

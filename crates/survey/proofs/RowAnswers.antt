@@ -24,8 +24,8 @@ use Rattle.cardsite.specs.Fields.{row_scenario}
 use Rattle.cardsite.specs.Running.{Running}
 use Rattle.cardsite.proofs.RowLaws.{row_within}
 use Rattle.cardsite.proofs.RowValues.{row_mother}
-use Rattle.survey.specs.declared.RowAnswer.{RowAnswer}
-use Rattle.survey.specs.declared.RowAnswer.TheVariants.{Blood, Refused}
+use Rattle.survey.specs.RowAnswer.{RowAnswer}
+use Rattle.survey.specs.RowAnswer.{Blood, Refused}
 use Rattle.survey.specs.Survey.{course_answer, card_answer, start_answer, kept_answer}
 use Rattle.survey.specs.Internal.{Ready}
 

@@ -19,8 +19,8 @@ use Rattle.card.proofs.Rows.{row_read}
 use Rattle.cardsite.specs.Start.{start_of}
 use Rattle.cardsite.specs.Fields.{row_scenario}
 use Rattle.cardsite.proofs.Starts.{runs_within}
-use Rattle.survey.specs.declared.RowAnswer.{RowAnswer}
-use Rattle.survey.specs.declared.RowAnswer.TheVariants.{Blood, Refused}
+use Rattle.survey.specs.RowAnswer.{RowAnswer}
+use Rattle.survey.specs.RowAnswer.{Blood, Refused}
 use Rattle.survey.specs.Survey.{course_answer, card_answer, files_then, row_answer, kept_answer}
 use Rattle.survey.specs.Laws.{KeptLaw, FilesFirst, Runs, AsTheRun, OwnRunLaw, RunLaw}
 use Rattle.survey.proofs.RowAnswers.{course_refused, course_runs}

@@ -13,8 +13,8 @@ use Rattle.card.specs.Values.{months_of}
 use Rattle.cardsite.specs.Start.{Start, start_of}
 use Rattle.cardsite.specs.Start as start
 use Rattle.cardsite.specs.Fields.{row_scenario}
-use Rattle.survey.specs.declared.RowAnswer.{RowAnswer}
-use Rattle.survey.specs.declared.RowAnswer.TheVariants.{Blood, Skipped, Refused}
+use Rattle.survey.specs.RowAnswer.{RowAnswer}
+use Rattle.survey.specs.RowAnswer.{Blood, Skipped, Refused}
 
 -- what a course up to AGE answers: the first refusal, birth's 22 or 9 or 22 of a month, else the blood at its end
 abbrev pub course_answer : Course → RowAnswer

@@ -4,7 +4,7 @@ use Rattle.block.proofs.RefusalNumbers.{some_number}
 use Rattle.steps.specs.Steps.{steps_a_day}
 use Rattle.files.proofs.ReadAnswers.{read_same}
 use Rattle.engine.proofs.FilesDecoded.{files_long}
-use Rattle.survey.specs.declared.RowAnswer.TheVariants.{Refused}
+use Rattle.survey.specs.RowAnswer.{Refused}
 use Rattle.survey.proofs.RowAnswers.{files_refused, files_read_ready, files_answered}
 use Rattle.survey.proofs.kept_answer.Goals as goal
 

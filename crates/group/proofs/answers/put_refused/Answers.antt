@@ -1,6 +1,6 @@
 -- `group::answers::put_refused` meets its contract: the rows so far are refused, whatever they are.
 use Rattle.cardsite.specs.Start.{Start}
-use Rattle.survey.specs.declared.RowAnswer.TheVariants.{Refused}
+use Rattle.survey.specs.RowAnswer.{Refused}
 use Rattle.group.proofs.AnswerWords.{none_answered, next-answered}
 use Rattle.group.proofs.GroupAnswers.{starts_none, starts_more}
 use Rattle.group.proofs.answers.put_refused.Goals as goal

@@ -2,7 +2,7 @@
 use Prim.Native.Nat.{ℕ, ◌-◌}
 use mathlib.Core.List.{List, map}
 use Rattle.cardsite.specs.Start.{Start}
-use Rattle.survey.specs.declared.RowAnswer.TheVariants.{Refused}
+use Rattle.survey.specs.RowAnswer.{Refused}
 use Rattle.roll.specs.Words.{starts_in}
 use Rattle.group.proofs.AnswerWords.{Answering}
 use Rattle.group.proofs.answers.put_refused.Given as goal
