@@ -9,19 +9,13 @@ use Rattle.exposure.specs.Exposure.{exposure_at}
 use Rattle.exposure.specs.Limits.{ExposureLimits}
 use Rattle.card.specs.declared.Card.{Card}
 use Rattle.card.specs.RowRead.{RowRead}
-use Rattle.card.specs.Values.{months_of, skipped}
 use Rattle.cardsite.specs.Start.{Runs, start_of}
 use Rattle.cardsite.specs.Over.{over_limit}
+use Rattle.cardsite.specs.Running.{Running}
 use Rattle.cardsite.specs.Fields.{row_fields, row_scenario}
 use Rattle.cardsite.specs.RowExposure.{row_exposure}
 
--- a card that runs is not skipped, none of its figures is over its limit, and it has an AGE from 1 to 84 months
-pub record Running (c : Card) : Type 0 where
-  pub runs : skipped c ≡ false
-  pub within : over_limit c ≡ false
-  pub first : 1 ≤ months_of c.age
-  pub last : months_of c.age ≤ 84
-
+-- a row's card that runs is not skipped, none of its figures is over its limit, and it has an AGE from 1 to 84 months
 abbrev pub RunsWithin : Type 0
 RunsWithin = (r : RowRead) (c : Card) → start_of r ≡ Runs c → Running c
 

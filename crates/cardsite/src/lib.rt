@@ -18,6 +18,9 @@ use site::places::{AGES, FIELDS};
 use site::{Scenario, places};
 
 pub mod exposures; // exposures.rt: what a row makes of an exposure
+mod running; // running.rt: a card that runs
+
+pub use running::RunningCard;
 
 // Where the absorbed percentages of dust and soil stand.
 const ABSORBED_DUST: usize = places::ABSORBED + 2;
@@ -95,7 +98,8 @@ pub fn row_scenario(card: &Card, scenario: &Scenario) -> Scenario
 }
 
 // What becomes of a card before it is run over the files: no card where it is skipped, then its own 7.
-pub fn start_card(card: &Card) -> Result<Option<Card>, Refusal>
+#[tactic(auto, using(crate::proofs::Starts::running))]
+pub fn start_card(card: &Card) -> Result<Option<RunningCard>, Refusal>
     ensures { start_with result ≡ start_of (Accepted card.now) }
 {
     if card.is_skipped() {
@@ -104,11 +108,11 @@ pub fn start_card(card: &Card) -> Result<Option<Card>, Refusal>
     if over_limit(card) {
         return Err(Refusal::FieldOutsideLimits);
     }
-    Ok(Some(*card))
+    Ok(Some(RunningCard { card: *card }))
 }
 
 // What becomes of a row: 12, then what becomes of its card.
-pub fn start_row(row: &RowText) -> Result<Option<Card>, Refusal>
+pub fn start_row(row: &RowText) -> Result<Option<RunningCard>, Refusal>
     ensures { start_with result ≡ start_of (read_kept row.now) }
 {
     start_card(&Card::read(row)?)

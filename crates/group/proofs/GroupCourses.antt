@@ -27,7 +27,7 @@ use Rattle.cardsite.specs.Start.{Start}
 use Rattle.cardsite.specs.Start as start
 use Rattle.cardsite.specs.Fields.{row_scenario}
 use Rattle.cardsite.specs.RowExposure.{row_exposure}
-use Rattle.cardsite.specs.Laws.{Running}
+use Rattle.cardsite.specs.Running.{Running}
 use Rattle.cardsite.proofs.RowValues.{row_mother, row_exposures}
 use Rattle.roll.specs.Words.{rows_a_group, start_at}
 use Rattle.roll.proofs.RowWords.{start_running}
@@ -72,16 +72,6 @@ module _ {scenario : Scenario} {table : List ℕ} {done : ℕ} {exposure : Expos
       card_goes_on e =
           let month : min (done + 1) (months_of c.age) ≡ suc done = omega arith in
           e ∙ rw (month, course_is)
-
--- rows that do not run rest
-module _ (s : ℕ) (scenario : Scenario) (table : List ℕ) (done : ℕ) {x : Start} {course : Course} (here : course ≡ course_by s scenario table x done) where
-  pub skipped_rests : x ≡ start.Skipped → course ≡ course_by s scenario table x (done + 1)
-  unfolding course_by
-  skipped_rests e = here ∙ rw e
-
-  pub refused_rests : {n : ℕ} → x ≡ start.Refused n → course ≡ course_by s scenario table x (done + 1)
-  unfolding course_by
-  refused_rests e = here ∙ rw e
 
 -- THE LOOP over the months: row i after m of them
 abbrev pub courses_at : ℕ → Scenario → List ℕ → List ℕ → ℕ → ℕ → Course
@@ -164,7 +154,7 @@ module _ {scenario : Scenario} {table : List ℕ} {done : ℕ} {exposure : Expos
 
   -- the row's course a month later, by what the code answers of it
   pub row_goes_on : (s : ℕ) {course next : Course}
-      → (GroupMonth scenario table done exposure row weight24 → ((c : Card) → x ≡ start.Runs c → Running c) → course ≡ course_by s scenario table x done → next ≡ course_by s scenario table x (done + 1))
+      → (GroupMonth scenario table done exposure row weight24 → course ≡ course_by s scenario table x done → next ≡ course_by s scenario table x (done + 1))
       → course ≡ courses_at s scenario table roll done i → next ≡ courses_at s scenario table roll (done + 1) i
   row_goes_on s goes here =
-      goes shared row_runs (here ∙ ap (λ y. course_by s scenario table y done) (sym ex)) ∙ ap (λ y. course_by s scenario table y (done + 1)) ex
+      goes shared (here ∙ ap (λ y. course_by s scenario table y done) (sym ex)) ∙ ap (λ y. course_by s scenario table y (done + 1)) ex

@@ -8,7 +8,7 @@ ghost use Rattle.roll.specs.Words.{rows_a_group, roll_words, starts_in};
 ghost use Rattle.group.specs.Group.{words_an_answer, answers_long, answer_words, answered};
 ghost use Rattle.group.specs.Internal.{end_answer, end_answers, answer_in, answer_at};
 
-use card::Card;
+use cardsite::RunningCard;
 use child::Course;
 use roll::GROUP_ROWS;
 use survey::RowAnswer;
@@ -56,7 +56,7 @@ fn put_answer(answers: &mut [u32], i: usize, answer: RowAnswer)
 }
 
 // What a row answers whose course is at its end.
-fn answer_of(start: &Result<Option<Card>, u32>, course: Course) -> RowAnswer
+fn answer_of(start: &Result<Option<RunningCard>, u32>, course: Course) -> RowAnswer
     ensures { result ≡ end_answer (start_read start.now) course }
 {
     match start {

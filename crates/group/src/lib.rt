@@ -6,9 +6,7 @@ ghost use Rattle.site.specs.declared.Scenario.{Scenario};
 ghost use Rattle.book.specs.Book.{table_numbers};
 ghost use Rattle.files.specs.Files.{files_if, files_decodes};
 ghost use Rattle.steps.specs.Steps.{steps_a_day};
-ghost use Rattle.card.specs.declared.Card.{Card};
 ghost use Rattle.cardsite.specs.Start.{Runs};
-ghost use Rattle.cardsite.specs.Laws.{Running};
 ghost use Rattle.cardsite.specs.RowExposure.{row_exposure};
 ghost use Rattle.child.specs.Internal.{MonthLimits};
 ghost use Rattle.survey.specs.Internal.{Ready};
@@ -18,7 +16,7 @@ ghost use Rattle.group.specs.Group.{answered, roll_answers, group_answers, group
 ghost use Rattle.group.specs.Internal.{until_of, course_by, GroupMonth, MonthFor, LastMonth, CoursesRun};
 
 use book::TABLE_NUMBERS;
-use card::Card;
+use cardsite::RunningCard;
 use child::Course;
 use exposure::Exposure;
 use roll::{GROUP_ROWS, ROLL_WORDS};
@@ -36,11 +34,11 @@ pub struct GroupRead {
 }
 
 // How many months a row is run: up to its AGE, and none if it is skipped or refused.
-fn until(start: &Result<Option<Card>, u32>) -> u64
+fn until(start: &Result<Option<RunningCard>, u32>) -> u64
     ensures { result ≡ until_of (start_read start.now) }
 {
     match start {
-        Ok(Some(card)) => card.months(),
+        Ok(Some(running)) => running.card.months(),
         Ok(None) | Err(_) => 0,
     }
 }
@@ -70,16 +68,17 @@ fn last_month(roll: &[u32], count: usize) -> u64
 
 // A month more of a card's course after the months done: past its AGE it rests, and so it does if it is refused.
 fn card_month(
-    card: &Card,
+    running: &RunningCard,
     course: Course,
     done: u64,
     exposure: Exposure,
     row: Row,
     weight24: u64,
 ) -> Course
-    requires { MonthLimits (row_exposure card.now exposure) row weight24 }
-    ensures { (scenario : Scenario) (table : List ℕ) → GroupMonth scenario table done exposure row weight24 → Running card.now → course ≡ course_by steps_a_day scenario table (Runs card.now) done → result ≡ course_by steps_a_day scenario table (Runs card.now) (done + 1) }
+    requires { MonthLimits (row_exposure running.now.card exposure) row weight24 }
+    ensures { (scenario : Scenario) (table : List ℕ) → GroupMonth scenario table done exposure row weight24 → course ≡ course_by steps_a_day scenario table (Runs running.now.card) done → result ≡ course_by steps_a_day scenario table (Runs running.now.card) (done + 1) }
 {
+    let card = &running.card;
     let age = card.months();
     if age <= done {
         return course;
@@ -91,7 +90,7 @@ fn card_month(
 // A month more of a row's course: a skipped or refused row rests.
 #[tactic(auto, unfolding(crate::specs::Internal::course_by))]
 fn row_month(
-    start: &Result<Option<Card>, u32>,
+    start: &Result<Option<RunningCard>, u32>,
     course: Course,
     done: u64,
     exposure: Exposure,
@@ -99,10 +98,10 @@ fn row_month(
     weight24: u64,
 ) -> Course
     requires { MonthFor (start_read start.now) exposure row weight24 }
-    ensures { (scenario : Scenario) (table : List ℕ) → GroupMonth scenario table done exposure row weight24 → ((c : Card) → start_read start.now ≡ Runs c → Running c) → course ≡ course_by steps_a_day scenario table (start_read start.now) done → result ≡ course_by steps_a_day scenario table (start_read start.now) (done + 1) }
+    ensures { (scenario : Scenario) (table : List ℕ) → GroupMonth scenario table done exposure row weight24 → course ≡ course_by steps_a_day scenario table (start_read start.now) done → result ≡ course_by steps_a_day scenario table (start_read start.now) (done + 1) }
 {
     match start {
-        Ok(Some(card)) => card_month(card, course, done, exposure, row, weight24),
+        Ok(Some(running)) => card_month(running, course, done, exposure, row, weight24),
         Ok(None) | Err(_) => course,
     }
 }

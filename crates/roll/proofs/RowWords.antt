@@ -10,7 +10,6 @@ use lib.ListN.{length}
 use lib.Dec.{eqb}
 use Rattle.site.specs.Fields.{field_count, at, limits}
 use Rattle.site.proofs.FieldTests.{limit_small}
-use Rattle.lines.specs.declared.RowText.{RowText}
 use Rattle.std.specs.Prelude.{Option, None, Some}
 use Rattle.card.specs.declared.Card.{Card}
 use Rattle.card.specs.RowRead.{RowRead}
@@ -19,7 +18,7 @@ use Rattle.card.specs.Row.{read_kept}
 use Rattle.card.specs.Values.{months_of}
 use Rattle.cardsite.specs.Start.{Start, Runs, Skipped, Refused, start_of}
 use Rattle.cardsite.specs.Over.{over}
-use Rattle.cardsite.specs.Laws.{Running}
+use Rattle.cardsite.specs.Running.{Running}
 use Rattle.cardsite.proofs.Limited.{own_within}
 use Rattle.cardsite.proofs.Starts.{runs_within}
 use Rattle.roll.specs.Words.{words_a_row, gap_word, word_of, value_in, card_words, start_words, card_in, start_in}
@@ -96,10 +95,6 @@ unfolding card_words
 words_long (Runs c) = refl
 words_long Skipped = refl
 words_long (Refused n) = refl
-
--- a row's card that runs fits its words
-pub runs_fits : (kept : RowText) (c : Card) → Runs c ≡ start_of (read_kept kept) → FitsWords c
-runs_fits kept c e = running_fits c (runs_within (read_kept kept) c (sym e))
 
 -- a row that runs by its words is a card that runs
 running_words : (words : List ℕ) (c : Card) (zero one : Bool)

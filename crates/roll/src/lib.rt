@@ -8,9 +8,10 @@ ghost use Rattle.cardsite.specs.Start.{start_of};
 ghost use Rattle.roll.specs.Read.{start_read};
 ghost use Rattle.roll.specs.Words.{rows_a_group, words_a_row, roll_words, gap_word, word_of, value_in, card_words, start_words, card_in, start_in, start_at};
 ghost use Rattle.roll.specs.Enrol.{with_row, enrolled, rolled, count_with_last, rolled_last};
-ghost use Rattle.roll.specs.Internal.{FitsWords, TextEnrolled};
+ghost use Rattle.roll.specs.Internal.{TextEnrolled};
 
 use card::Card;
+use cardsite::RunningCard;
 use lines::{Reader, RowText};
 
 // The rows of a group.
@@ -68,11 +69,11 @@ fn value_in(word: u32) -> Option<u64>
 }
 
 // The words of a card that runs.
-#[tactic(auto, unfolding(crate::specs::Words::card_words))]
-fn card_words(card: &Card) -> [u32; ROW_WORDS]
-    requires { FitsWords card.now }
-    ensures { result ≡ card_words card.now }
+#[tactic(auto, using(crate::proofs::RowWords::running_fits), unfolding(crate::specs::Words::card_words))]
+fn card_words(running: &RunningCard) -> [u32; ROW_WORDS]
+    ensures { result ≡ card_words running.now.card }
 {
+    let card = &running.card;
     [
         RUNS,
         card.months() as u32,
@@ -91,7 +92,7 @@ fn row_words(row: &RowText) -> [u32; ROW_WORDS]
     ensures { result ≡ start_words (start_of (read_kept row.now)) }
 {
     match cardsite::start_row(row) {
-        Ok(Some(card)) => card_words(&card),
+        Ok(Some(running)) => card_words(&running),
         Ok(None) => [SKIPPED, 0, 0, 0, 0, 0, 0, 0, 0],
         Err(refusal) => [REFUSED, refusal.number(), 0, 0, 0, 0, 0, 0, 0],
     }
@@ -141,7 +142,7 @@ fn card_in(words: &[u32]) -> Card
 // What becomes of a row, by its words: no card where it is skipped. Words that no row gave are checked as a card is; a number among them may be any,
 // so a refusal is a number here.
 #[tactic(auto, unfolding(crate::specs::Words::start_in))]
-fn start_in(words: &[u32]) -> Result<Option<Card>, u32>
+fn start_in(words: &[u32]) -> Result<Option<RunningCard>, u32>
     requires { length words.now ≡ words_a_row }
     ensures { start_read result ≡ start_in words.now }
 {
@@ -157,7 +158,7 @@ fn start_in(words: &[u32]) -> Result<Option<Card>, u32>
 }
 
 // What becomes of row i of a roll.
-pub fn start_at(roll: &[u32], i: usize) -> Result<Option<Card>, u32>
+pub fn start_at(roll: &[u32], i: usize) -> Result<Option<RunningCard>, u32>
     requires { (length roll.now ≡ roll_words) × (i < rows_a_group) }
     ensures { start_read result ≡ start_at roll.now i }
 {

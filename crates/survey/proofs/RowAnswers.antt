@@ -19,14 +19,13 @@ use Rattle.lines.specs.declared.RowText.{RowText}
 use Rattle.card.specs.declared.Card.{Card}
 use Rattle.card.specs.Row.{read_kept}
 use Rattle.card.specs.Values.{months_of}
-use Rattle.cardsite.specs.Start.{Start, start_of}
-use Rattle.cardsite.specs.Start as start
+use Rattle.cardsite.specs.Start.{start_of}
 use Rattle.cardsite.specs.Fields.{row_scenario}
-use Rattle.cardsite.specs.Laws.{Running}
+use Rattle.cardsite.specs.Running.{Running}
 use Rattle.cardsite.proofs.RowLaws.{row_within}
 use Rattle.cardsite.proofs.RowValues.{row_mother}
 use Rattle.survey.specs.declared.RowAnswer.{RowAnswer}
-use Rattle.survey.specs.declared.RowAnswer.TheVariants.{Blood, Skipped, Refused}
+use Rattle.survey.specs.declared.RowAnswer.TheVariants.{Blood, Refused}
 use Rattle.survey.specs.Survey.{course_answer, card_answer, start_answer, kept_answer}
 use Rattle.survey.specs.Internal.{Ready}
 
@@ -53,17 +52,6 @@ pub card-answered :
     → r ≡ card_answer s scenario table c
 unfolding card_answer
 card-answered s c scenario table er ea ec e = e ∙ rw (ec, er, ea)
-
--- a row of accepted files, by its start
-module _ (s : ℕ) (scenario : Scenario) (table : List ℕ) {x : Start} (kept : RowText) (ex : x ≡ start_of (read_kept kept)) where
-  pub start_runs : (c : Card) → x ≡ start.Runs c → {r : RowAnswer} → r ≡ card_answer s scenario table c → r ≡ start_answer s scenario table (start_of (read_kept kept))
-  start_runs c e er = er ∙ rw (sym ex ∙ e)
-
-  pub start_skips : x ≡ start.Skipped → Skipped ≡ start_answer s scenario table (start_of (read_kept kept))
-  start_skips e = rw (sym ex ∙ e)
-
-  pub start_refuses : (n : ℕ) → x ≡ start.Refused n → Refused n ≡ start_answer s scenario table (start_of (read_kept kept))
-  start_refuses n e = rw (sym ex ∙ e)
 
 -- accepted files
 pub files_ready : (f : Files) → files_refusal f ≡ 0 → Ready (scenario_in f) (table_in f)

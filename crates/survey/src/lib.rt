@@ -4,7 +4,6 @@
 ghost use Rattle.std.specs.Prelude.{◌≡◌, length};
 ghost use Rattle.book.specs.Book.{table_numbers};
 ghost use Rattle.card.specs.Row.{read_kept};
-ghost use Rattle.cardsite.specs.Laws.{Running};
 ghost use Rattle.cardsite.specs.Start.{start_of};
 ghost use Rattle.files.specs.Files.{files_if};
 ghost use Rattle.steps.specs.Steps.{steps_a_day};
@@ -12,7 +11,7 @@ ghost use Rattle.survey.specs.Survey.{course_answer, card_answer, start_answer, 
 ghost use Rattle.survey.specs.Internal.{Ready};
 
 use book::TABLE_NUMBERS;
-use card::Card;
+use cardsite::RunningCard;
 use child::Course;
 use lines::RowText;
 use site::Scenario;
@@ -40,12 +39,12 @@ pub fn course_answer(course: Course) -> RowAnswer
 }
 
 // What a card answers that is neither refused nor skipped: birth, and the months up to its AGE.
-fn card_answer(card: &Card, scenario: Scenario, table: &[u32]) -> RowAnswer
-    requires { (length table.now ≡ table_numbers) × (Ready scenario table.now) × (Running card.now) }
-    ensures { result ≡ card_answer steps_a_day scenario table.now card.now }
+fn card_answer(running: &RunningCard, scenario: Scenario, table: &[u32]) -> RowAnswer
+    requires { (length table.now ≡ table_numbers) × (Ready scenario table.now) }
+    ensures { result ≡ card_answer steps_a_day scenario table.now running.now.card }
 {
-    let row = cardsite::row_scenario(card, &scenario);
-    let age = card.months();
+    let row = cardsite::row_scenario(&running.card, &scenario);
+    let age = running.card.months();
     let course = child::courses::to_month(row, table, age as u32);
     course_answer(course)
 }
@@ -56,7 +55,7 @@ fn start_answer(kept: &RowText, scenario: Scenario, table: &[u32]) -> RowAnswer
     ensures { result ≡ start_answer steps_a_day scenario table.now (start_of (read_kept kept.now)) }
 {
     match cardsite::start_row(kept) {
-        Ok(Some(card)) => card_answer(&card, scenario, table),
+        Ok(Some(running)) => card_answer(&running, scenario, table),
         Ok(None) => RowAnswer::Skipped,
         Err(refusal) => RowAnswer::Refused(refusal.number()),
     }

@@ -4,7 +4,7 @@ use Rattle.survey.proofs.RowAnswers.{row_decoded, card-answered}
 use Rattle.survey.proofs.card_answer.Goals as goal
 
 pub to_month-course-requires : goal.to_month-course-requires
-to_month-course-requires c = (c.requires.0, rw c.row_scenario-row.ensures (row_decoded _ c.requires.2 _ _ c.requires.1))
+to_month-course-requires c = (c.requires.0, rw c.row_scenario-row.ensures (row_decoded _ c.args.running.now.running _ _ c.requires.1))
 
 pub returns : goal.returns
 returns c =
