@@ -22,7 +22,7 @@ use Rattle.cardsite.specs.Start.{Start, start_of}
 use Rattle.cardsite.specs.Start as start
 use Rattle.cardsite.specs.Fields.{row_scenario}
 use Rattle.lines.specs.Text.{lines_of}
-use Rattle.roll.specs.declared.RowsTaken.{RowsTaken}
+use Rattle.roll.specs.RowsTaken.{RowsTaken}
 use Rattle.roll.specs.Words.{rows_a_group, start_at, starts_in}
 use Rattle.roll.specs.Enrol.{group_of}
 use Rattle.roll.specs.Internal.{TextEnrolled}

@@ -4,13 +4,13 @@ ghost use Rattle.numbers.specs.Parts.{placed};
 ghost use Rattle.cardsite.specs.Start.{Start};
 ghost use Rattle.survey.specs.RowAnswer.{Refused};
 ghost use Rattle.roll.specs.Read.{start_read};
-ghost use Rattle.roll.specs.Words.{rows_a_group, roll_words, starts_in};
+ghost use Rattle.roll.specs.Words.{rows_a_group, starts_in};
 ghost use Rattle.group.specs.Group.{words_an_answer, answers_long, answer_words, answered};
 ghost use Rattle.group.specs.Internal.{end_answer, end_answers, answer_in, answer_at};
 
 use cardsite::RunningCard;
 use child::Course;
-use roll::GROUP_ROWS;
+use roll::{GROUP_ROWS, Roll};
 use survey::RowAnswer;
 
 // The words of a row's answer, and of a group's.
@@ -80,13 +80,13 @@ pub fn put_refused(refusal: u32, count: usize, answers: &mut [u32])
 }
 
 // Every row answers by what becomes of it and its course.
-pub fn put_courses(roll: &[u32], courses: [Course; GROUP_ROWS], count: usize, answers: &mut [u32])
-    requires { (length roll.now ≡ roll_words) × (length answers.old ≡ answers_long) × (count ≤ rows_a_group) }
-    ensures { answers.new ≡ answered (end_answers roll.now courses count) answers.old }
+pub fn put_courses(roll: &Roll, courses: [Course; GROUP_ROWS], count: usize, answers: &mut [u32])
+    requires { (length answers.old ≡ answers_long) × (count ≤ rows_a_group) }
+    ensures { answers.new ≡ answered (end_answers roll.now.words courses count) answers.old }
 {
     let mut i: usize = 0;
     while i < count {
-        let start = roll::start_at(roll, i);
+        let start = roll.start_at(i);
         let course = courses[i];
         let answer = answer_of(&start, course);
         put_answer(answers, i, answer);

@@ -1,7 +1,7 @@
 // A group of up to 64 rows of a card, run together over one reading of their files: all to a month before any goes on to the next.
 #![tactic(auto)]
 
-ghost use Rattle.std.specs.Prelude.{◌≡◌, List, ℕ, ◌+◌, ◌≤◌, min, max, length};
+ghost use Rattle.std.specs.Prelude.{◌≡◌, List, ℕ, ◌+◌, ◌≤◌, max, length};
 ghost use Rattle.site.specs.declared.Scenario.{Scenario};
 ghost use Rattle.book.specs.Book.{table_numbers};
 ghost use Rattle.files.specs.Files.{files_if, files_decodes};
@@ -10,7 +10,7 @@ ghost use Rattle.cardsite.specs.Start.{Runs};
 ghost use Rattle.cardsite.specs.RowExposure.{row_exposure};
 ghost use Rattle.child.specs.Internal.{MonthLimits};
 ghost use Rattle.survey.specs.Internal.{Ready};
-ghost use Rattle.roll.specs.Words.{rows_a_group, roll_words};
+ghost use Rattle.roll.specs.Words.{rows_a_group};
 ghost use Rattle.roll.specs.Read.{start_read};
 ghost use Rattle.group.specs.Group.{answered, roll_answers, group_answers, group_read};
 ghost use Rattle.group.specs.Internal.{until_of, course_by, GroupMonth, MonthFor, LastMonth, CoursesRun};
@@ -19,7 +19,7 @@ use book::TABLE_NUMBERS;
 use cardsite::RunningCard;
 use child::Course;
 use exposure::Exposure;
-use roll::{GROUP_ROWS, ROLL_WORDS};
+use roll::{GROUP_ROWS, Roll};
 use row::Row;
 use site::Scenario;
 
@@ -51,14 +51,14 @@ fn later(a: u64, b: u64) -> u64
 }
 
 // The last month that a row of the roll is run.
-fn last_month(roll: &[u32], count: usize) -> u64
-    requires { (length roll.now ≡ roll_words) × (count ≤ rows_a_group) }
-    ensures { LastMonth roll.now count result }
+fn last_month(roll: &Roll, count: usize) -> u64
+    requires { count ≤ rows_a_group }
+    ensures { LastMonth roll.now.words count result }
 {
     let mut last: u64 = 0;
     let mut i: usize = 0;
     while i < count {
-        let start = roll::start_at(roll, i);
+        let start = roll.start_at(i);
         let months = until(&start);
         last = later(last, months);
         i = i + 1;
@@ -107,9 +107,9 @@ fn row_month(
 }
 
 // The courses of the rows of a roll, month by month: all to a month, whose exposure and row they share, before any goes on to the next.
-fn courses_of(scenario: Scenario, table: &[u32], roll: &[u32], count: usize) -> [Course; GROUP_ROWS]
-    requires { (length table.now ≡ table_numbers) × (Ready scenario table.now) × (length roll.now ≡ roll_words) × (count ≤ rows_a_group) }
-    ensures { CoursesRun steps_a_day scenario table.now roll.now count result }
+fn courses_of(scenario: Scenario, table: &[u32], roll: &Roll, count: usize) -> [Course; GROUP_ROWS]
+    requires { (length table.now ≡ table_numbers) × (Ready scenario table.now) × (count ≤ rows_a_group) }
+    ensures { CoursesRun steps_a_day scenario table.now roll.now.words count result }
 {
     let birth = child::courses::at_birth(scenario, table);
     let mut courses = [birth; GROUP_ROWS];
@@ -124,7 +124,7 @@ fn courses_of(scenario: Scenario, table: &[u32], roll: &[u32], count: usize) -> 
         let row = row::table::row_at(table, month as usize);
         let mut i: usize = 0;
         while i < count {
-            let start = roll::start_at(roll, i);
+            let start = roll.start_at(i);
             let course = courses[i];
             let next = row_month(&start, course, done, exposure, row, weight24);
             courses[i] = next;
@@ -135,17 +135,6 @@ fn courses_of(scenario: Scenario, table: &[u32], roll: &[u32], count: usize) -> 
     courses
 }
 
-// So many rows, or those of a full roll.
-pub fn rows_of(count: usize) -> usize
-    ensures { result ≡ min count rows_a_group }
-{
-    if count < GROUP_ROWS {
-        count
-    } else {
-        GROUP_ROWS
-    }
-}
-
 // The rows of a roll over a site file, a foods block if `has_foods` says so, and a rate book: their answers in words, and how many blocks of the
 // book were decoded.
 pub fn answer_roll(
@@ -153,14 +142,13 @@ pub fn answer_roll(
     has_foods: bool,
     foods: &[u8],
     book: &[u8],
-    roll: &[u32; ROLL_WORDS],
-    count: usize,
+    roll: &Roll,
     answers: &mut [u32; answers::WORDS],
 ) -> u32
     ensures value { result ≡ files_decodes (files_if has_foods site.now foods.now book.now) }
-    ensures answers_after { answers.new ≡ answered (roll_answers steps_a_day (files_if has_foods site.now foods.now book.now) count roll.now) answers.old }
+    ensures answers_after { answers.new ≡ answered (roll_answers steps_a_day (files_if has_foods site.now foods.now book.now) roll.now.count roll.now.words) answers.old }
 {
-    let rows = rows_of(count);
+    let rows = roll.rows();
     let mut table = [0u32; TABLE_NUMBERS];
     let mut decodes = 0;
     let call = files::call_files(site, has_foods, foods, book);
@@ -186,12 +174,12 @@ pub fn answer_text(
     ensures value { result ≡ group_read (files_if has_foods site.now foods.now book.now) rows.now }
     ensures answers_after { answers.new ≡ answered (group_answers steps_a_day (files_if has_foods site.now foods.now book.now) rows.now) answers.old }
 {
-    let mut roll = [0u32; ROLL_WORDS];
-    let taken = roll::enrol_text(rows, &mut roll);
-    let decodes = answer_roll(site, has_foods, foods, book, &roll, taken.count, answers);
+    let mut roll = Roll::new();
+    let next = roll.enrol_text(rows);
+    let decodes = answer_roll(site, has_foods, foods, book, &roll, answers);
     GroupRead {
-        rows: taken.count as u32,
+        rows: roll.count as u32,
         decodes,
-        next: taken.next,
+        next,
     }
 }

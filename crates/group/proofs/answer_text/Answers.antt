@@ -8,11 +8,11 @@ use Rattle.group.proofs.GroupAnswers.{taken_few, text_answered, text_read}
 use Rattle.group.proofs.answer_text.Goals as goal
 
 pub overflow_cast-result : goal.overflow_cast-result
-overflow_cast-result c = omega (arith, taken_few c.enrol_text-taken.ensures)
+overflow_cast-result c = omega (arith, taken_few c.enrol_text-next.ensures)
 
 pub returns : goal.returns
 returns c =
-    let taken = c.enrol_text-taken.ensures in
+    let taken = c.enrol_text-next.ensures in
     let a = c.args in
     let f = files_if a.has_foods a.site.now a.foods.now a.book.now in
     record {

@@ -13,19 +13,19 @@ at_birth-birth-requires c = (c.requires.0, ready_decoded c.requires.1)
 
 pub loop-done-init : goal.loop-done-init
 loop-done-init c = (
-  courses_born steps_a_day _ _ c.requires.1 _ _ c.requires.3 c.at_birth-birth.ensures,
+  courses_born steps_a_day _ _ c.requires.1 _ _ c.requires.2 c.at_birth-birth.ensures,
   length-replicate {A = Course} rows_a_group c.at_birth-birth.result,
   omega arith,
 )
 
 pub row_month-next-requires : goal.row_month-next-requires
 row_month-next-requires c =
-    let roll = c.args.roll.now in
+    let roll = c.args.roll.now.words in
     month_for c.loop-i.invariant.2 roll c.loop-i.i c.start_at-start.ensures (omega (arith, c.last_month-last.ensures.within))
 
 pub loop-i-preserved : goal.loop-i-preserved
 loop-i-preserved c =
-    let roll = c.args.roll.now in (
+    let roll = c.args.roll.now.words in (
       turn_next _ _ _ _ _ _ _ c.loop-i-test.true
           (row_goes_on c.loop-i.invariant.2 roll c.loop-i.i c.start_at-start.ensures steps_a_day (c.row_month-next.ensures _ _)) c.loop-i.invariant.0,
       simp length-set c.loop-i.invariant.1,

@@ -8,7 +8,7 @@ use Rattle.group.proofs.AnswerWords.{Answering}
 use Rattle.group.proofs.answers.put_courses.Given as goal
 
 abbrev pub invariant-loop-i : goal.invariant-loop-i
-invariant-loop-i l = (length l.courses ≡ rows_a_group) × Answering l.initial.answers l.count (end_answers l.roll l.courses l.i) l.answers l.i
+invariant-loop-i l = (length l.courses ≡ rows_a_group) × Answering l.initial.answers l.count (end_answers l.roll.words l.courses l.i) l.answers l.i
 
 abbrev pub decreases-loop-i : goal.decreases-loop-i
 decreases-loop-i l = l.count - l.i
