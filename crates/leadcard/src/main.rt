@@ -9,6 +9,7 @@ ghost use Rattle.lines.specs.Stream.{after};
 ghost use Rattle.roll.specs.Words.{rows_a_group};
 
 use console::{BOOK_READ, SITE_READ};
+use files::CallFiles;
 use lines::Reader;
 use roll::{GROUP_ROWS, Roll};
 use std::fs::File;
@@ -21,8 +22,7 @@ const PIECE_BYTES: usize = 512;
 // A text as far as it was read, over a site file and a book: the rows on the roll, fewer than a group, are not printed yet.
 #[derive(Drop)]
 struct Survey<'a> {
-    site: &'a [u8],
-    book: &'a [u8],
+    files: CallFiles<'a>,
     reader: Reader,
     roll: Roll,
 }
@@ -33,8 +33,11 @@ impl<'a> Survey<'a> {
         ensures { result.roll.count < rows_a_group }
     {
         Survey {
-            site,
-            book,
+            files: CallFiles {
+                site,
+                foods: None,
+                book,
+            },
             reader: Reader::before_text(),
             roll: Roll::new(),
         }
@@ -43,7 +46,7 @@ impl<'a> Survey<'a> {
     // Prints the lines of the rows on the roll.
     fn print_roll(&self, rt: &impl Print) -> io::Result<()> {
         let mut lines = Line::new();
-        cardline::put_lines(self.site, self.book, &self.roll, &mut lines);
+        cardline::put_lines(&self.files, &self.roll, &mut lines);
         rt.write_all(lines.bytes())
     }
 

@@ -10,6 +10,7 @@ use Rattle.refusal.specs.Refusal.{number_of}
 use Rattle.block.proofs.RefusalNumbers.{some_number}
 use Rattle.site.specs.declared.Scenario.{Scenario}
 use Rattle.site.proofs.FieldsWithin.{accepted_fits, mother_accepted}
+use Rattle.exposure.proofs.ExposureWithin.{exposure_within}
 use Rattle.book.proofs.RowsWithin.{rows_within}
 use Rattle.files.specs.FilesRead.{FilesRead}
 use Rattle.files.specs.Files.{Files, files_refusal, scenario_in, table_in}
@@ -41,7 +42,10 @@ course_refused c h = sym (answer_refused (Blood c.blood) Refused c.refusal h)
 pub course_runs : (c : Course) → c.refusal ≡ 0 → Blood c.blood ≡ course_answer c
 course_runs c e = rw e
 
--- a card that runs has a scenario within the limits
+-- the yard's own scenario is within the limits, and that of a card that runs
+pub ready_decoded : {scenario : Scenario} {table : List ℕ} → Ready scenario table → Decoded scenario table
+ready_decoded {scenario} ready = record { exposure = exposure_within scenario ready.fields.fit; mother = ready.mother; row = ready.row }
+
 pub row_decoded : (c : Card) → Running c → (scenario : Scenario) (table : List ℕ) → Ready scenario table → Decoded (row_scenario c scenario) table
 row_decoded c run scenario table ready =
     record {

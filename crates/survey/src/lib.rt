@@ -19,7 +19,18 @@ use refusal::Refusal;
 
 pub mod ready; // ready.rt: what accepted files give the rows of a card
 
-impl ReadyFiles<'_> {
+impl<'a> ReadyFiles<'a> {
+    // What they give a child of the yard itself.
+    pub fn of_yard(&self) -> Accepted<'a>
+        ensures scenario { result.scenario ≡ self.now.scenario }
+        ensures table { result.table ≡ self.now.table }
+    {
+        Accepted {
+            scenario: self.scenario,
+            table: self.table,
+        }
+    }
+
     // The blood figure at the AGE of a card that runs, in thousandths of ug/dL: birth, and the months up to it.
     fn card_blood(&self, running: &RunningCard) -> Result<u32, Refusal>
         ensures { blood_in result ≡ card_answer steps_a_day self.now.scenario.now self.now.table.now running.now.card }
