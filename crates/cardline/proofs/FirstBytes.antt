@@ -8,7 +8,7 @@ use Rattle.files.specs.Files.{Files, length_refusal, before_book_refusal, files_
 use Rattle.files.proofs.FirstBytes.{first_bytes}
 use Rattle.steps.specs.Steps.{steps_a_day}
 use Rattle.lines.specs.Text.{rows_of}
-use Rattle.survey.specs.declared.RowAnswer.TheVariants.{Refused}
+use Rattle.survey.specs.RowAnswer.{Refused}
 use Rattle.survey.specs.Survey.{row_answer}
 use Rattle.survey.proofs.RowLaws.{files_first}
 use Rattle.cardline.specs.Cardline.{row_line, joined, card_printout}

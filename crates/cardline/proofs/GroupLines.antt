@@ -1,10 +1,12 @@
 -- The lines of a group, its count, and the lines of a text that comes in pieces, group by group.
 -- Assumes nothing.
 use Prim.Native.Nat.{ℕ, zero, suc, ◌+◌, ◌-◌, ◌≤◌, ◌<◌, min}
-use mathlib.Core.Path.{◌≡◌, refl, sym, ap, ap₂, ◌∙◌}
+use mathlib.Core.Path.{◌≡◌, refl, sym, ap, ◌∙◌}
 use mathlib.Core.List.{List, [], ◌∷◌, ◌++◌, map, append-nil, append_assoc}
 use native.Mathlib.Omega.{arith}
-use lib.ListN.{length, take, drop}
+use lib.ListN.{length, get_or, take, drop}
+use Rattle.std.proofs.Common.{Option, None, Result, Ok}
+use Rattle.std.proofs.lemmas.List.{map-append, take_more}
 use Rattle.files.specs.Files.{Files}
 use Rattle.files.proofs.Decodes as files
 use Rattle.steps.specs.Steps.{steps_a_day}
@@ -15,19 +17,16 @@ use Rattle.lines.specs.Summary.{summary_of}
 use Rattle.lines.specs.Stream.{start, after, ended, last, read_rows}
 use Rattle.lines.proofs.Reading.{rows_read, after-pieces, ended-pieces}
 use Rattle.card.specs.Row.{read_kept}
-use Rattle.cardsite.specs.Start.{Start, start_of}
-use Rattle.roll.specs.Words.{rows_a_group, start_at, starts_in}
+use Rattle.cardsite.specs.Start.{start_of}
+use Rattle.roll.specs.Words.{rows_a_group, starts_in}
 use Rattle.roll.specs.Enrol.{with_rows}
 use Rattle.roll.proofs.RollRows.{rolled_rows}
-use Rattle.survey.specs.declared.RowAnswer.{RowAnswer}
 use Rattle.survey.specs.Survey.{files_then, row_answer, kept_answer}
 use Rattle.survey.proofs.RowLaws.{kept_law}
-use Rattle.group.specs.Group.{answered, roll_answers}
-use Rattle.group.specs.Internal.{answer_at}
-use Rattle.group.proofs.GroupAnswers.{starts_map, answer_at_is}
+use Rattle.group.specs.Group.{roll_answers}
+use Rattle.group.specs.Given.{answer_read}
 use Rattle.cardline.specs.Cardline.{row_line, joined, card_printout}
 use Rattle.cardline.specs.Groups.{group_lines, pieces_rows, groups_with, groups_of, kept_lines, printed}
-use Rattle.cardline.specs.Internal.{lines_in}
 use Rattle.cardline.specs.Laws.{GroupLaw, GroupsLaw, PiecesLaw, DecodesLaw}
 
 -- lines after lines
@@ -36,32 +35,19 @@ unfolding joined
 joined-append [] b = refl
 joined-append (l ∷ a) b = ap (l ++◌) (joined-append a b) ∙ sym (append_assoc l (joined a) (joined b))
 
-map-append : {A B : Type 0} (g : A → B) (xs ys : List A) → map g (xs ++ ys) ≡ map g xs ++ map g ys
-map-append g [] ys = refl
-map-append g (x ∷ xs) ys = ap (g x ∷◌) (map-append g xs ys)
-
--- the lines that the code puts are those of the roll's rows
-module _ (f : Files) (roll : List ℕ) where
-  abbrev answer : Start → RowAnswer
-  answer = files_then steps_a_day f
-
-  lines_are : (n : ℕ) (answers : List ℕ) → ((i : ℕ) → i < n → answer_at answers i ≡ answer (start_at roll i)) → lines_in n answers ≡ joined (map row_line (map answer (starts_in n roll)))
-  unfolding lines_in starts_in joined
-  lines_are zero answers same = refl
-  lines_are (suc n) answers same =
-      ap₂ (λ l a. l ++ row_line a) (lines_are n answers (λ i h. same i (omega arith))) (same n (omega arith))
-      ∙ sym
-      (ap (λ xs. joined (map row_line xs)) (starts_map answer n roll)
-      ∙ ap joined (map-append row_line (map answer (starts_in n roll)) (answer (start_at roll n) ∷ []))
-      ∙ joined-append (map row_line (map answer (starts_in n roll))) (row_line (answer (start_at roll n)) ∷ [])
-      ∙ ap (joined (map row_line (map answer (starts_in n roll))) ++◌) (append-nil (row_line (answer (start_at roll n)))))
-
-  pub group_put : (count : ℕ) (lent : List ℕ) {n : ℕ} {answers : List ℕ} → n ≡ min count rows_a_group → answers ≡ answered (roll_answers steps_a_day f count roll) lent
-      → lines_in n answers ≡ group_lines f count roll
-  unfolding group_lines roll_answers
-  group_put count lent {n} {answers} en ea =
-      let here : answers ≡ answered (map answer (starts_in n roll)) lent = ea ∙ ap (λ k. answered (map answer (starts_in k roll)) lent) (sym en) in
-      lines_are n answers (answer_at_is answer roll n lent here) ∙ ap (λ k. joined (map row_line (map answer (starts_in k roll)))) en
+-- the lines that the code puts, one more after the others
+pub lines_more : (answers : List (Result (Option ℕ) ℕ)) (i : ℕ) → i < length answers
+    → joined (map row_line (map answer_read (take i answers))) ++ row_line (answer_read (get_or answers i (Ok None))) ≡ joined (map row_line (map answer_read (take (i + 1) answers)))
+unfolding joined
+lines_more answers i h =
+    let a = get_or answers i (Ok None) in
+    let before = map answer_read (take i answers) in
+    sym
+    (ap (λ xs. joined (map row_line (map answer_read xs))) (take_more answers i (Ok None) h)
+    ∙ ap (λ xs. joined (map row_line xs)) (map-append answer_read (take i answers) (a ∷ []))
+    ∙ ap joined (map-append row_line before (answer_read a ∷ []))
+    ∙ joined-append (map row_line before) (row_line (answer_read a) ∷ [])
+    ∙ ap (joined (map row_line before) ++◌) (append-nil (row_line (answer_read a))))
 
 -- LAW: the rows of a group are printed as each is alone
 kept_answers : (f : Files) (rows : List RowText) → map row_line (map (files_then steps_a_day f) (map (λ (kept : RowText). start_of (read_kept kept)) rows)) ≡ map (λ (kept : RowText). row_line (kept_answer steps_a_day f kept)) rows

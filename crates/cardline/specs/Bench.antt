@@ -2,7 +2,7 @@
 -- Assumes nothing.
 use Rattle.std.specs.Prelude.{◌≡◌, [], ◌∷◌}
 use Rattle.files.specs.Files.{Files}
-use Rattle.survey.specs.declared.RowAnswer.TheVariants.{Blood, Skipped, Refused}
+use Rattle.survey.specs.RowAnswer.{Blood, Skipped, Refused}
 use Rattle.cardline.specs.Cardline.{row_line, card_printout}
 
 pub record Bench : Type 0 where

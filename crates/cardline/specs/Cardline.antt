@@ -8,8 +8,8 @@ use Rattle.text.specs.Decimal.{decimal}
 use Rattle.text.specs.Figure.{figure}
 use Rattle.text.specs.Words.{refused_text}
 use Rattle.lines.specs.Text.{rows_of}
-use Rattle.survey.specs.declared.RowAnswer.{RowAnswer}
-use Rattle.survey.specs.declared.RowAnswer.TheVariants.{Blood, Skipped, Refused}
+use Rattle.survey.specs.RowAnswer.{RowAnswer}
+use Rattle.survey.specs.RowAnswer.{Blood, Skipped, Refused}
 use Rattle.survey.specs.Survey.{row_answer}
 
 -- a row's line: its blood in leadline's decimals; `---` if it is skipped; `refused ` and the number

@@ -3,11 +3,11 @@
 #![tactic(auto)]
 
 ghost use Rattle.std.specs.Prelude.{◌≡◌, length};
-ghost use Rattle.files.specs.Files.{files_of};
+ghost use Rattle.files.specs.CallFiles.{files_in};
 ghost use Rattle.cardline.specs.Groups.{group_lines, lines_read};
 
-use group::answers::WORDS;
-use roll::{GROUP_ROWS, ROLL_WORDS};
+use files::CallFiles;
+use roll::{GROUP_ROWS, Roll};
 use text::Line;
 
 mod rows; // rows.rt: the lines of answers
@@ -18,19 +18,12 @@ const LINE_BYTES: usize = 19;
 // Bytes that the lines of a group fit in.
 pub const GROUP_BYTES: usize = GROUP_ROWS * LINE_BYTES;
 
-// Puts the lines of a roll's rows in place of what stood there, and answers how many blocks of the book were decoded.
-pub fn put_lines(
-    site: &[u8],
-    book: &[u8],
-    roll: &[u32; ROLL_WORDS],
-    count: usize,
-    lines: &mut Line<GROUP_BYTES>,
-) -> u32
-    ensures bytes { lines.new ≡ group_lines (files_of site.now book.now) count roll.now }
-    ensures value { record { bytes = length lines.new; decodes = result } ≡ lines_read (files_of site.now book.now) count roll.now }
+// Puts the lines of a roll's rows over these files in place of what stood there, and answers how many blocks of the book were decoded.
+pub fn put_lines(files: &CallFiles, roll: &Roll, lines: &mut Line<GROUP_BYTES>) -> u32
+    ensures bytes { lines.new ≡ group_lines (files_in files.now) roll.now.count roll.now.words }
+    ensures value { record { bytes = length lines.new; decodes = result } ≡ lines_read (files_in files.now) roll.now.count roll.now.words }
 {
-    let mut answers = [0u32; WORDS];
-    let decodes = group::answer_roll(site, false, &site[..0], book, roll, count, &mut answers);
-    rows::put_rows(lines, &answers, group::rows_of(count));
-    decodes
+    let answers = group::answers_of(files, roll);
+    rows::put_rows(lines, answers.given());
+    answers.decodes
 }

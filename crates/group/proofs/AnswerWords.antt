@@ -2,19 +2,18 @@
 -- Assumes nothing.
 use Prim.Native.Nat.{ℕ, ◌+◌, ◌*◌, ◌≤◌, ◌<◌}
 use mathlib.Core.Path.{◌≡◌, refl, sym, ap, ◌∙◌}
-use mathlib.Core.List.{List, [], ◌∷◌, ◌++◌, append-nil, append_assoc}
+use mathlib.Core.List.{List, [], ◌∷◌, ◌++◌, map, append-nil, append_assoc}
 use native.Mathlib.Omega.{arith}
-use borrow.Author.Tests.{ne_eqb}
-use lib.ListN.{length, get_or, set, drop, length-append, length-drop}
-use lib.Seq.{take_at, drop_at}
-use Rattle.numbers.specs.Parts.{part_at, placed}
+use lib.ListN.{length, get_or, take, drop, length-append, length-drop}
+use Rattle.std.proofs.Common.{Option, None, Result, Ok}
+use Rattle.std.proofs.lemmas.List.{take_more, map-append}
+use Rattle.numbers.specs.Parts.{placed}
 use Rattle.numbers.proofs.Parts.{placed-next, placed_long}
-use Rattle.site.specs.Fields.{at}
-use Rattle.survey.specs.declared.RowAnswer.{RowAnswer}
-use Rattle.survey.specs.declared.RowAnswer.TheVariants.{Blood, Skipped, Refused}
+use Rattle.survey.specs.RowAnswer.{RowAnswer}
+use Rattle.survey.specs.RowAnswer.{Blood, Skipped, Refused}
 use Rattle.roll.specs.Words.{rows_a_group}
 use Rattle.group.specs.Group.{words_an_answer, answers_long, answer_words, group_words, answered}
-use Rattle.group.specs.Internal.{answer_in}
+use Rattle.group.specs.Given.{answer_read}
 
 -- two words each
 pub answer_long : (a : RowAnswer) → length (answer_words a) ≡ words_an_answer
@@ -31,16 +30,6 @@ words_append : (given : List RowAnswer) (a : RowAnswer) → group_words (given +
 unfolding group_words
 words_append [] a = append-nil (answer_words a)
 words_append (b ∷ given) a = ap (answer_words b ++◌) (words_append given a) ∙ sym (append_assoc (answer_words b) (group_words given) (answer_words a))
-
--- two words put into a place of two are its words
-pub pair_put : (place words : List ℕ) → length place ≡ words_an_answer → length words ≡ words_an_answer → set (set place 0 (get_or words 0 0)) 1 (get_or words 1 0) ≡ words
-pair_put [] words e f = absurd (omega arith)
-pair_put (a ∷ []) words e f = absurd (omega arith)
-pair_put (a ∷ b ∷ []) [] e f = absurd (omega arith)
-pair_put (a ∷ b ∷ []) (x ∷ []) e f = absurd (omega arith)
-pair_put (a ∷ b ∷ []) (x ∷ y ∷ []) e f = refl
-pair_put (a ∷ b ∷ []) (x ∷ y ∷ z ∷ zs) e f = absurd (omega arith)
-pair_put (a ∷ b ∷ c ∷ cs) words e f = absurd (omega arith)
 
 -- with the answers in front the lent words are as many as before
 pub answered_long : (given : List RowAnswer) (lent : List ℕ) → words_an_answer * length given ≤ length lent → length (answered given lent) ≡ length lent
@@ -79,31 +68,9 @@ next-answered {lent} {n} {given} {l} {i} inv h few a e =
         let k : words_an_answer * i + words_an_answer ≡ words_an_answer * length (given ++ (a ∷ [])) = omega (arith, more) in
         rw (words_append given a, k)
 
--- READ BACK: two words say the answer that they are of
-pub answer_back : (a : RowAnswer) → answer_in (answer_words a) ≡ a
-unfolding answer_in
-answer_back (Blood b) = refl
-answer_back Skipped = refl
-answer_back (Refused n) = refl
-
-module _ (words : List ℕ) where
-  pub says_blood : at words 0 ≡ 0 → Blood (at words 1) ≡ answer_in words
-  unfolding answer_in
-  says_blood e = rw e
-
-  pub says_skipped : at words 0 ≡ 1 → Skipped ≡ answer_in words
-  unfolding answer_in
-  says_skipped e = rw e
-
-  pub says_refused : (at words 0 ≡ 0 → ⊥) → (at words 0 ≡ 1 → ⊥) → Refused (at words 1) ≡ answer_in words
-  unfolding answer_in
-  says_refused z n = rw (ne_eqb (at words 0) 0 z, ne_eqb (at words 0) 1 n)
-
--- the pair of a row among those of all
-pub pair_of : (given : List RowAnswer) (a : RowAnswer) (rest : List ℕ) → part_at words_an_answer (group_words (given ++ (a ∷ [])) ++ rest) (length given) ≡ answer_words a
-pair_of given a rest =
-    rw (words_append given a, append_assoc (group_words given) (answer_words a) rest, drop_at (group_words given) (answer_words a ++ rest) (words_an_answer * length given) (words_long given))
-    (take_at (answer_words a) rest words_an_answer (answer_long a))
-
-pub pair_before : (given : List RowAnswer) (a : RowAnswer) (rest : List ℕ) → group_words (given ++ (a ∷ [])) ++ rest ≡ group_words given ++ (answer_words a ++ rest)
-pair_before given a rest = rw (words_append given a, append_assoc (group_words given) (answer_words a) rest)
+-- of the answers that the code has
+pub answer_more : {lent : List ℕ} (answers : List (Result (Option ℕ) ℕ)) (i : ℕ) {l l' : List ℕ} → Answering lent (length answers) (map answer_read (take i answers)) l i → i < length answers → length answers ≤ rows_a_group
+    → l' ≡ placed words_an_answer i (answer_words (answer_read (get_or answers i (Ok None)))) l → Answering lent (length answers) (map answer_read (take (i + 1) answers)) l' (i + 1)
+answer_more {lent} answers i {l} {l'} inv h few e =
+    let more : map answer_read (take (i + 1) answers) ≡ map answer_read (take i answers) ++ (answer_read (get_or answers i (Ok None)) ∷ []) = ap (map answer_read) (take_more answers i (Ok None) h) ∙ map-append answer_read (take i answers) (get_or answers i (Ok None) ∷ []) in
+    rw more (next-answered inv h few (answer_read (get_or answers i (Ok None))) e)

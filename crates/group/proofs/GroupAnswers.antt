@@ -1,20 +1,21 @@
 -- What a group answers: each row as it answers alone.
 -- Assumes nothing.
-use Prim.Native.Nat.{ℕ, zero, suc, ◌+◌, ◌≤◌, ◌<◌, min}
+use Prim.Native.Nat.{ℕ, ◌+◌, ◌≤◌, ◌<◌, min}
 use mathlib.Core.Path.{◌≡◌, refl, sym, ap, ap₂, ◌∙◌}
 use mathlib.Core.List.{List, [], ◌∷◌, ◌++◌, map}
 use native.Mathlib.Omega.{arith}
 use native.Mathlib.Numerals.{add-one}
-use native.Mathlib.Decide.{ℕ_discrete}
-use lib.ListN.{length, get_or, length-take, length-map}
-use Rattle.numbers.specs.Parts.{part_at}
+use lib.ListN.{length, get_or, set, take, replicate, length-take}
+use Rattle.std.proofs.Common.{Option, Result, Err}
+use Rattle.std.proofs.lemmas.List.{take_more_set, map-append, take-replicate}
 use Rattle.numbers.proofs.Refusals.{answer_refused}
 use Rattle.site.specs.declared.Scenario.{Scenario}
 use Rattle.files.specs.FilesRead.{FilesRead}
 use Rattle.files.specs.Files.{Files, files_decodes}
 use Rattle.files.specs.Internal.{FilesAreRead}
 use Rattle.engine.proofs.FilesDecoded.{files_passed, read_as_lem}
-use Rattle.child.specs.declared.Course.{Course}
+use Rattle.child.specs.declared.courses.Course as code
+use Rattle.child.specs.Outcomes.{course_in}
 use Rattle.child.specs.Course.{course_at}
 use Rattle.card.specs.Row.{read_row}
 use Rattle.card.specs.Values.{months_of}
@@ -22,33 +23,29 @@ use Rattle.cardsite.specs.Start.{Start, start_of}
 use Rattle.cardsite.specs.Start as start
 use Rattle.cardsite.specs.Fields.{row_scenario}
 use Rattle.lines.specs.Text.{lines_of}
-use Rattle.roll.specs.declared.RowsTaken.{RowsTaken}
+use Rattle.roll.specs.RowsTaken.{RowsTaken}
 use Rattle.roll.specs.Words.{rows_a_group, start_at, starts_in}
 use Rattle.roll.specs.Enrol.{group_of}
 use Rattle.roll.specs.Internal.{TextEnrolled}
 use Rattle.roll.proofs.TextRows.{starts_long}
-use Rattle.survey.specs.declared.RowAnswer.{RowAnswer}
-use Rattle.survey.specs.declared.RowAnswer.TheVariants.{Refused}
+use Rattle.survey.specs.RowAnswer.{RowAnswer}
+use Rattle.survey.specs.RowAnswer.{Refused}
 use Rattle.survey.specs.Survey.{course_answer, card_answer, start_answer, files_then, row_answer}
-use Rattle.group.specs.Group.{words_an_answer, answers_long, answer_words, group_words, answered, group_answers, group_read, roll_answers}
-use Rattle.group.specs.Internal.{until_of, course_by, no_course, CoursesRun, end_answer, end_answers, answer_in, answer_at}
-use Rattle.group.proofs.AnswerWords.{answered_long, answer_back, pair_of, pair_before}
+use Rattle.group.specs.Group.{group_answers, group_read, roll_answers}
+use Rattle.group.specs.Given.{answer_read, answers_read}
+use Rattle.group.specs.Internal.{until_of, course_by, no_course, CoursesRun, end_answer}
 
--- the rows that one more row joins
-pub starts_map : (g : Start → RowAnswer) (n : ℕ) (roll : List ℕ) → map g (starts_in (suc n) roll) ≡ map g (starts_in n roll) ++ (g (start_at roll n) ∷ [])
+-- one row more on the roll, and one answer more
+pub rows_none : (g : Start → RowAnswer) (roll : List ℕ) → [] ≡ map g (starts_in 0 roll)
 unfolding starts_in
-starts_map g n roll = map_more (starts_in n roll) (start_at roll n)
-  where
-    map_more : (xs : List Start) (x : Start) → map g (xs ++ (x ∷ [])) ≡ map g xs ++ (g x ∷ [])
-    map_more [] x = refl
-    map_more (y ∷ ys) x = ap (g y ∷◌) (map_more ys x)
+rows_none g roll = refl
 
-pub starts_more : (g : Start → RowAnswer) (n : ℕ) (roll : List ℕ) → map g (starts_in n roll) ++ (g (start_at roll n) ∷ []) ≡ map g (starts_in (n + 1) roll)
-starts_more g n roll = rw add-one (sym (starts_map g n roll))
-
-pub starts_none : (g : Start → RowAnswer) (roll : List ℕ) → [] ≡ map g (starts_in 0 roll)
+pub rows_more : (g : Start → RowAnswer) (n : ℕ) (roll : List ℕ) → map g (starts_in n roll) ++ (g (start_at roll n) ∷ []) ≡ map g (starts_in (n + 1) roll)
 unfolding starts_in
-starts_none g roll = refl
+rows_more g n roll = rw add-one (sym (map-append g (starts_in n roll) (start_at roll n ∷ [])))
+
+pub read_more : (answers : List (Result (Option ℕ) ℕ)) (n : ℕ) (a : Result (Option ℕ) ℕ) → n < length answers → answers_read (n + 1) (set answers n a) ≡ answers_read n answers ++ (answer_read a ∷ [])
+read_more answers n a h = ap (map answer_read) (take_more_set answers n a h) ∙ map-append answer_read (take n answers) (a ∷ [])
 
 map_same : {A : Type 0} (g h : A → RowAnswer) → ((x : A) → g x ≡ h x) → (xs : List A) → map g xs ≡ map h xs
 map_same g h same [] = refl
@@ -64,39 +61,34 @@ module _ (s : ℕ) (scenario : Scenario) (table : List ℕ) where
   end_answer_lem start.Skipped = refl
   end_answer_lem (start.Refused n) = refl
 
-  pub end_answers_lem : (roll : List ℕ) (n : ℕ) (courses : List Course) → CoursesRun s scenario table roll n courses → (m : ℕ) → m ≤ n
-      → end_answers roll courses m ≡ map (start_answer s scenario table) (starts_in m roll)
-  unfolding end_answers starts_in
-  end_answers_lem roll n courses run zero h = refl
-  end_answers_lem roll n courses run (suc m) h =
-      ap₂ (λ l a. l ++ (a ∷ [])) (end_answers_lem roll n courses run m (omega arith))
-      (ap (end_answer (start_at roll m)) (run.each m (omega arith)) ∙ end_answer_lem (start_at roll m))
-      ∙ sym (starts_map (start_answer s scenario table) m roll)
-
-pub ends_more : (roll : List ℕ) (courses : List Course) (n : ℕ) {x : Start} {a : RowAnswer} → x ≡ start_at roll n → a ≡ end_answer x (get_or courses n no_course)
-    → end_answers roll courses n ++ (a ∷ []) ≡ end_answers roll courses (n + 1)
-unfolding end_answers
-ends_more roll courses n ex ea = rw add-one (ap (λ b. end_answers roll courses n ++ (b ∷ [])) (ea ∙ ap (λ y. end_answer y (get_or courses n no_course)) ex))
-
-pub ends_none : (roll : List ℕ) (courses : List Course) → [] ≡ end_answers roll courses 0
-unfolding end_answers
-ends_none roll courses = refl
+  -- the next row of a roll
+  pub row_answered : (roll : List ℕ) (n : ℕ) (courses : List code.Course) → CoursesRun s scenario table roll n courses
+      → (answers : List (Result (Option ℕ) ℕ)) (i : ℕ) (a : Result (Option ℕ) ℕ) {x : Start} → i < n → i < length answers → x ≡ start_at roll i → answer_read a ≡ end_answer x (course_in (get_or courses i no_course))
+      → answers_read i answers ≡ map (start_answer s scenario table) (starts_in i roll) → answers_read (i + 1) (set answers i a) ≡ map (start_answer s scenario table) (starts_in (i + 1) roll)
+  row_answered roll n courses run answers i a h room ex ea so_far =
+      let next : answer_read a ≡ start_answer s scenario table (start_at roll i) = rw (ea, ex, run.each i h) (end_answer_lem (start_at roll i)) in
+      read_more answers i a room ∙ rw (so_far, next) (rows_more (start_answer s scenario table) i roll)
 
 -- the files as the code has them from its reading
-module _ {f : Files} {table : List ℕ} {x : FilesRead} (read : FilesAreRead f table x) (s : ℕ) (roll : List ℕ) (count : ℕ) {n : ℕ} (en : n ≡ min count rows_a_group) where
-  pub roll_refused : (x.refusal ≡ 0 → ⊥) → map (λ (y : Start). Refused x.refusal) (starts_in n roll) ≡ roll_answers s f count roll
+module _ {f : Files} {table : List ℕ} {x : FilesRead} (read : FilesAreRead f table x) (s : ℕ) (roll : List ℕ) (count : ℕ) where
+  pub roll_refused : (x.refusal ≡ 0 → ⊥) → map (λ (y : Start). Refused x.refusal) (starts_in (min count rows_a_group) roll) ≡ roll_answers s f count roll
   unfolding roll_answers
-  roll_refused h =
-      map_same (λ (y : Start). Refused x.refusal) (files_then s f) (λ y. rw (← read.refusal) (sym (answer_refused _ Refused x.refusal h))) (starts_in n roll)
-      ∙ ap (λ k. map (files_then s f) (starts_in k roll)) en
+  roll_refused h = map_same (λ (y : Start). Refused x.refusal) (files_then s f) (λ y. rw (← read.refusal) (sym (answer_refused _ Refused x.refusal h))) (starts_in (min count rows_a_group) roll)
 
-  pub roll_answered : (z : x.refusal ≡ 0) {courses : List Course} → CoursesRun s x.scenario table roll n courses → end_answers roll courses n ≡ roll_answers s f count roll
+  pub roll_answered : (z : x.refusal ≡ 0) → map (start_answer s x.scenario table) (starts_in (min count rows_a_group) roll) ≡ roll_answers s f count roll
   unfolding roll_answers
-  roll_answered z {courses} run =
-      end_answers_lem s x.scenario table roll n courses run n (omega arith)
-      ∙ map_same (start_answer s x.scenario table) (files_then s f)
-      (λ y. read_as_lem f (read.scenario z) (read.table_is z) (λ scenario l. start_answer s scenario l y) ∙ rw (files_passed read z)) (starts_in n roll)
-      ∙ ap (λ k. map (files_then s f) (starts_in k roll)) en
+  roll_answered z =
+      map_same (start_answer s x.scenario table) (files_then s f)
+      (λ y. read_as_lem f (read.scenario z) (read.table_is z) (λ scenario l. start_answer s scenario l y) ∙ rw (files_passed read z)) (starts_in (min count rows_a_group) roll)
+
+-- where the files are refused, every row answers their number
+pub all_refused : (r n m : ℕ) (roll : List ℕ) → n ≤ m → answers_read n (replicate m (Err r)) ≡ map (λ (y : Start). Refused r) (starts_in n roll)
+all_refused r n m roll h =
+    ap (map answer_read) (take-replicate n m (Err r) h) ∙ ap (λ k. map answer_read (replicate k (Err r))) (sym (starts_long n roll)) ∙ sym (one_number (starts_in n roll))
+  where
+    one_number : (xs : List Start) → map (λ (y : Start). Refused r) xs ≡ map answer_read (replicate (length xs) (Err r))
+    one_number [] = refl
+    one_number (x ∷ xs) = ap (Refused r ∷◌) (one_number xs)
 
 -- the rows of a text
 group_few : (text : List ℕ) → length (group_of text) ≤ rows_a_group
@@ -119,29 +111,3 @@ module _ {text roll : List ℕ} {r : RowsTaken} (taken : TextEnrolled text roll 
 
   pub text_read : (f : Files) {rows decodes : ℕ} → rows ≡ r.count → decodes ≡ files_decodes f → record { rows = rows; decodes = decodes; next = r.next } ≡ group_read f text
   text_read f er ed = rw (er, taken.count, ed, taken.next)
-
--- what is read back of the words of a roll's answers
-module _ (g : Start → RowAnswer) (roll : List ℕ) where
-  starts_many : (n : ℕ) → length (map g (starts_in n roll)) ≡ n
-  starts_many n = length-map (starts_in n roll) g ∙ starts_long n roll
-
-  pair_at : (n : ℕ) (rest : List ℕ) (i : ℕ) → i < n → part_at words_an_answer (group_words (map g (starts_in n roll)) ++ rest) i ≡ answer_words (g (start_at roll i))
-  pair_at zero rest i h = absurd (omega arith)
-  pair_at (suc n) rest i h =
-      elim (ℕ_discrete i n) [
-        | yes e ↦
-            rw (starts_map g n roll, e)
-            (ap (part_at words_an_answer (group_words (map g (starts_in n roll) ++ (g (start_at roll n) ∷ [])) ++ rest)) (sym (starts_many n))
-            ∙ pair_of (map g (starts_in n roll)) (g (start_at roll n)) rest)
-        | no d ↦
-            rw (starts_map g n roll, pair_before (map g (starts_in n roll)) (g (start_at roll n)) rest)
-            (pair_at n (answer_words (g (start_at roll n)) ++ rest) i (omega arith))
-      ]
-
-  pub answer_at_is : (n : ℕ) (lent : List ℕ) {answers : List ℕ} → answers ≡ answered (map g (starts_in n roll)) lent → (i : ℕ) → i < n → answer_at answers i ≡ g (start_at roll i)
-  answer_at_is n lent e i h = ap answer_in (ap (λ l. part_at words_an_answer l i) e ∙ pair_at n _ i h) ∙ answer_back (g (start_at roll i))
-
-pub roll_answers_long : (s : ℕ) (f : Files) (count : ℕ) (roll lent : List ℕ) → length lent ≡ answers_long → length (answered (roll_answers s f count roll) lent) ≡ answers_long
-unfolding roll_answers
-roll_answers_long s f count roll lent long =
-    answered_long (map (files_then s f) (starts_in (min count rows_a_group) roll)) lent (omega (arith, starts_many (files_then s f) roll (min count rows_a_group))) ∙ long

@@ -2,23 +2,27 @@
 -- Assumes nothing.
 use Prim.Native.Nat.{ℕ, suc, ◌+◌, ◌≤◌, ◌<◌, min, max}
 use mathlib.Core.Path.{◌≡◌, refl, sym, ap, ◌∙◌}
-use mathlib.Core.List.{List}
+use mathlib.Core.List.{List, map}
 use native.Mathlib.Omega.{arith}
 use native.Mathlib.Decide.{ℕ_discrete}
-use lib.ListN.{length, replicate, get_or-replicate, length-replicate}
-use Rattle.numbers.proofs.Turns.{AllBy}
+use lib.ListN.{replicate, get_or, set, get_or-replicate, get_or-map, length-replicate, length-map}
+use Rattle.std.proofs.Common.{Result, Ok, Err}
+use Rattle.std.proofs.lemmas.List.{map-set}
+use Rattle.numbers.proofs.Turns.{AllBy, Turned, turn_next}
+use Rattle.refusal.specs.declared.Refusal.{Refusal}
 use Rattle.site.specs.declared.Scenario.{Scenario}
 use Rattle.exposure.specs.declared.Exposure.{Exposure}
-use Rattle.exposure.specs.Exposure.{exposure_at}
-use Rattle.exposure.proofs.ExposureWithin.{exposure_within}
+use Rattle.exposure.specs.Limits.{ExposureLimits}
 use Rattle.row.specs.declared.Row.{Row}
-use Rattle.row.specs.Row.{last_month, row_of}
+use Rattle.row.specs.Row.{last_month}
 use Rattle.uptake.specs.Age.{age_of}
 use Rattle.uptake.proofs.UptakeBounds.{age_law}
-use Rattle.child.specs.declared.Course.{Course}
-use Rattle.child.specs.Month.{exposure_in, saturation_month}
+use Rattle.child.specs.declared.courses.Course as code
+use Rattle.child.specs.Answers.{Course}
+use Rattle.child.specs.Outcomes.{course_with, course_in}
+use Rattle.child.specs.Month.{exposure_in}
 use Rattle.child.specs.Course.{next_month, course_at}
-use Rattle.child.specs.Internal.{Decoded, MonthLimits, MonthGiven}
+use Rattle.child.specs.Internal.{MonthGiven}
 use Rattle.child.proofs.MonthAnswers.{limits-at}
 use Rattle.child.proofs.CourseMonths.{course_born_same, course_month_given}
 use Rattle.card.specs.declared.Card.{Card}
@@ -33,21 +37,29 @@ use Rattle.roll.specs.Words.{rows_a_group, start_at}
 use Rattle.roll.proofs.RowWords.{start_running}
 use Rattle.survey.specs.Internal.{Ready}
 use Rattle.survey.proofs.RowAnswers.{row_decoded}
-use Rattle.group.specs.Internal.{until_of, LastMonth, course_by, GroupMonth, MonthFor, no_course, CoursesRun}
+use Rattle.group.specs.Internal.{until_of, LastMonth, course_by, GroupMonth, no_course, CoursesRun}
+
+-- the child at the end of a course
+state_is : (c : code.Course) → (course_in c).state ≡ c.state
+state_is c = by c.blood
+  where
+    by : (blood : Result ℕ Refusal) → (course_with c.state blood).state ≡ c.state
+    by (Ok blood) = refl
+    by (Err r) = refl
 
 module _ {scenario : Scenario} {table : List ℕ} {done : ℕ} {exposure : Exposure} {row : Row} {weight24 : ℕ}
-    (shared : GroupMonth scenario table done exposure row weight24) (c : Card) (run : Running c) where
+    (ready : Ready scenario table) (shared : GroupMonth scenario table done exposure row weight24) (c : Card) (run : Running c) where
   -- a row's own exposure of the month
   own_exposure : done < last_month → row_exposure c exposure ≡ exposure_in (row_scenario c scenario) (done + 1)
   own_exposure h =
-      ap (row_exposure c) shared.exposure_is ∙ sym (row_exposures c scenario shared.ready.fields.long (age_of (done + 1)) (age_law (done + 1) (omega arith)))
+      ap (row_exposure c) shared.exposure_is ∙ sym (row_exposures c scenario ready.fields.long (age_of (done + 1)) (age_law (done + 1) (omega arith)))
 
-  pub own_limits : done < last_month → MonthLimits (row_exposure c exposure) row weight24
-  own_limits h = rw (own_exposure h, shared.row_is, shared.weight_is) (limits-at (row_decoded c run scenario table shared.ready) (done + 1) (omega arith))
+  pub own_limits : done < last_month → ExposureLimits (row_exposure c exposure)
+  own_limits h = rw (own_exposure h) (limits-at (row_decoded c run scenario table ready) (done + 1) (omega arith)).exposed
 
-  module _ (s : ℕ) {course : Course} (here : course ≡ course_by s scenario table (start.Runs c) done) where
+  module _ (s : ℕ) (course : code.Course) (here : course_in course ≡ course_by s scenario table (start.Runs c) done) where
     -- past its AGE it rests
-    pub card_rests : months_of c.age ≤ done → course ≡ course_by s scenario table (start.Runs c) (done + 1)
+    pub card_rests : months_of c.age ≤ done → course_in course ≡ course_by s scenario table (start.Runs c) (done + 1)
     unfolding course_by
     card_rests h =
         let same : min done (months_of c.age) ≡ min (done + 1) (months_of c.age) = omega arith in
@@ -55,30 +67,28 @@ module _ {scenario : Scenario} {table : List ℕ} {done : ℕ} {exposure : Expos
 
     -- else it goes on
     module _ (h : done < months_of c.age) where
-      course_is : course ≡ course_at s (row_scenario c scenario) table done
+      course_is : course_in course ≡ course_at s (row_scenario c scenario) table done
       unfolding course_by
       course_is =
           let month : min done (months_of c.age) ≡ done = omega arith in
           here ∙ ap (course_at s (row_scenario c scenario) table) month
 
-      pub card_month_given : {own : Exposure} → own ≡ row_exposure c exposure → course.refusal ≡ 0 → MonthGiven (row_scenario c scenario) table course.state own row weight24
+      pub card_month_given : {own : Exposure} → own ≡ row_exposure c exposure → (course_in course).refusal ≡ 0 → MonthGiven (row_scenario c scenario) table course.state own row weight24
       card_month_given eo e =
-          rw course_is
+          let state : (course_at s (row_scenario c scenario) table done).state ≡ course.state = sym (ap (λ (x : Course). x.state) course_is) ∙ state_is course in
+          rw state at
           (course_month_given s (row_scenario c scenario) table done (sym (ap (λ (x : Course). x.refusal) course_is) ∙ e)
           (eo ∙ own_exposure (omega (arith, run.last))) shared.row_is shared.weight_is)
 
-      pub card_goes_on : {next : Course} → next ≡ next_month s (row_scenario c scenario) table course → next ≡ course_by s scenario table (start.Runs c) (done + 1)
+      pub card_goes_on : (next : code.Course) → course_in next ≡ next_month s (row_scenario c scenario) table (course_in course) → course_in next ≡ course_by s scenario table (start.Runs c) (done + 1)
       unfolding course_by course_at
-      card_goes_on e =
+      card_goes_on next e =
           let month : min (done + 1) (months_of c.age) ≡ suc done = omega arith in
           e ∙ rw (month, course_is)
 
 -- THE LOOP over the months: row i after m of them
 abbrev pub courses_at : ℕ → Scenario → List ℕ → List ℕ → ℕ → ℕ → Course
 courses_at s scenario table roll m i = course_by s scenario table (start_at roll i) m
-
-pub ready_decoded : {scenario : Scenario} {table : List ℕ} → Ready scenario table → Decoded scenario table
-ready_decoded {scenario} ready = record { exposure = exposure_within scenario ready.fields.fit; mother = ready.mother; row = ready.row }
 
 module _ (s : ℕ) (scenario : Scenario) (table : List ℕ) (ready : Ready scenario table) where
   -- before the first month every row has the course at birth: birth depends on the mother alone
@@ -100,17 +110,19 @@ module _ (s : ℕ) (scenario : Scenario) (table : List ℕ) (ready : Ready scena
   ended_by_lem (start.Refused n) m h = refl
 
   module _ (roll : List ℕ) (n : ℕ) where
-    pub courses_born : n ≤ rows_a_group → {birth : Course} → birth ≡ course_at s scenario table 0 → AllBy no_course n (courses_at s scenario table roll 0) (replicate rows_a_group birth)
-    courses_born few {birth} e =
+    pub courses_born : n ≤ rows_a_group → (birth : code.Course) → course_in birth ≡ course_at s scenario table 0
+        → AllBy (course_in no_course) n (courses_at s scenario table roll 0) (map course_in (replicate rows_a_group birth))
+    courses_born few birth e =
         record {
-          room = rw (length-replicate rows_a_group birth) few;
-          each = λ i h. get_or-replicate rows_a_group i birth no_course (omega arith) ∙ e ∙ born_by (start_at roll i);
+          room = rw (length-map (replicate rows_a_group birth) course_in, length-replicate rows_a_group birth) few;
+          each = λ i h.
+              get_or-map course_in (replicate rows_a_group birth) i no_course ∙ ap course_in (get_or-replicate rows_a_group i birth no_course (omega arith)) ∙ e ∙ born_by (start_at roll i);
         }
 
-    pub courses_ended : {last m : ℕ} → LastMonth roll n last → last ≤ m → {courses : List Course} → length courses ≡ rows_a_group → AllBy no_course n (courses_at s scenario table roll m) courses
+    pub courses_ended : {last m : ℕ} → LastMonth roll n last → last ≤ m → (courses : List code.Course) → AllBy (course_in no_course) n (courses_at s scenario table roll m) (map course_in courses)
         → CoursesRun s scenario table roll n courses
-    courses_ended {last} {m} l h long all =
-        record { long = long; each = λ i g. all.each i g ∙ ended_by_lem (start_at roll i) m (omega (arith, l.reaches i g)) }
+    courses_ended {last} {m} l h courses all =
+        record { each = λ i g. sym (get_or-map course_in courses i no_course) ∙ all.each i g ∙ ended_by_lem (start_at roll i) m (omega (arith, l.reaches i g)) }
 
 -- the last month: none yet, and one row more
 until_most : (x : Start) → ((c : Card) → x ≡ start.Runs c → Running c) → until_of x ≤ last_month
@@ -133,28 +145,13 @@ module _ (roll : List ℕ) where
       by i (yes z) h = let same : until_of (start_at roll i) ≡ months = rw z (sym (em ∙ ap until_of ex)) in omega arith
       by i (no z) h = omega (arith, l.reaches i (omega arith))
 
--- a month of the group, as the code takes it up
-pub group_month : {scenario : Scenario} {table : List ℕ} {done month age : ℕ} {exposure : Exposure} {row row24 : Row} → Ready scenario table → month ≡ done + 1 → age ≡ age_of month
-    → exposure ≡ exposure_at scenario age → row ≡ row_of table month → row24 ≡ row_of table saturation_month → GroupMonth scenario table done exposure row row24.body_weight
-group_month {scenario} {table} ready em ea ee er e24 =
-    record {
-      ready = ready;
-      exposure_is = ee ∙ ap (exposure_at scenario) (ea ∙ ap age_of em);
-      row_is = er ∙ ap (row_of table) em;
-      weight_is = ap (λ (r : Row). r.body_weight) e24;
-    }
-
-module _ {scenario : Scenario} {table : List ℕ} {done : ℕ} {exposure : Exposure} {row : Row} {weight24 : ℕ}
-    (shared : GroupMonth scenario table done exposure row weight24) (roll : List ℕ) (i : ℕ) {x : Start} (ex : x ≡ start_at roll i) where
-  row_runs : (c : Card) → x ≡ start.Runs c → Running c
-  row_runs c e = start_running _ c (sym ex ∙ e)
-
-  pub month_for : done < last_month → MonthFor x exposure row weight24
-  month_for h = λ c e. own_limits shared c (row_runs c e) h
-
-  -- the row's course a month later, by what the code answers of it
-  pub row_goes_on : (s : ℕ) {course next : Course}
-      → (GroupMonth scenario table done exposure row weight24 → course ≡ course_by s scenario table x done → next ≡ course_by s scenario table x (done + 1))
-      → course ≡ courses_at s scenario table roll done i → next ≡ courses_at s scenario table roll (done + 1) i
-  row_goes_on s goes here =
-      goes shared (here ∙ ap (λ y. course_by s scenario table y done) (sym ex)) ∙ ap (λ y. course_by s scenario table y (done + 1)) ex
+-- the row's course a month later, by what the code answers of it
+module _ (s : ℕ) (scenario : Scenario) (table roll : List ℕ) (n done : ℕ) where
+  pub row_goes_on : (courses : List code.Course) (i : ℕ) (next : code.Course) {x : Start} → x ≡ start_at roll i → i < n
+      → (course_in (get_or courses i no_course) ≡ course_by s scenario table x done → course_in next ≡ course_by s scenario table x (done + 1))
+      → Turned (course_in no_course) n (courses_at s scenario table roll done) (courses_at s scenario table roll (done + 1)) (map course_in courses) i
+      → Turned (course_in no_course) n (courses_at s scenario table roll done) (courses_at s scenario table roll (done + 1)) (map course_in (set courses i next)) (i + 1)
+  row_goes_on courses i next {x} ex h goes turned =
+      rw (map-set course_in courses i next)
+      (turn_next _ _ _ _ _ _ _ h
+      (λ here. goes (sym (get_or-map course_in courses i no_course) ∙ here ∙ ap (λ y. course_by s scenario table y done) (sym ex)) ∙ ap (λ y. course_by s scenario table y (done + 1)) ex) turned)

@@ -5,8 +5,8 @@ use Rattle.files.specs.Files.{Files, files_decodes}
 use Rattle.lines.specs.Text.{line_start}
 use Rattle.roll.specs.Words.{rows_a_group, starts_in}
 use Rattle.roll.specs.Enrol.{group_of}
-use Rattle.survey.specs.declared.RowAnswer.{RowAnswer}
-use Rattle.survey.specs.declared.RowAnswer.TheVariants.{Blood, Skipped, Refused}
+use Rattle.survey.specs.RowAnswer.{RowAnswer}
+use Rattle.survey.specs.RowAnswer.{Blood, Skipped, Refused}
 use Rattle.survey.specs.Survey.{files_then, row_answer}
 use Rattle.group.specs.declared.GroupRead.{GroupRead}
 

@@ -1,197 +1,109 @@
 // A group of up to 64 rows of a card, run together over one reading of their files: all to a month before any goes on to the next.
 #![tactic(auto)]
 
-ghost use Rattle.std.specs.Prelude.{◌≡◌, List, ℕ, ◌+◌, ◌≤◌, min, max, length};
-ghost use Rattle.site.specs.declared.Scenario.{Scenario};
-ghost use Rattle.book.specs.Book.{table_numbers};
-ghost use Rattle.files.specs.Files.{files_if, files_decodes};
+ghost use Rattle.std.specs.Prelude.{◌≡◌, map, min};
+ghost use Rattle.files.specs.Files.{files_decodes};
+ghost use Rattle.files.specs.CallFiles.{files_in};
 ghost use Rattle.steps.specs.Steps.{steps_a_day};
-ghost use Rattle.cardsite.specs.Start.{Runs};
-ghost use Rattle.cardsite.specs.RowExposure.{row_exposure};
-ghost use Rattle.child.specs.Internal.{MonthLimits};
-ghost use Rattle.survey.specs.Internal.{Ready};
-ghost use Rattle.roll.specs.Words.{rows_a_group, roll_words};
+ghost use Rattle.child.specs.Outcomes.{course_in};
+ghost use Rattle.survey.specs.Survey.{start_answer};
+ghost use Rattle.roll.specs.Words.{rows_a_group, starts_in};
 ghost use Rattle.roll.specs.Read.{start_read};
 ghost use Rattle.group.specs.Group.{answered, roll_answers, group_answers, group_read};
-ghost use Rattle.group.specs.Internal.{until_of, course_by, GroupMonth, MonthFor, LastMonth, CoursesRun};
+ghost use Rattle.group.specs.Given.{answer_read, answers_read};
+ghost use Rattle.group.specs.Internal.{end_answer};
 
+use answers::WORDS;
 use book::TABLE_NUMBERS;
 use cardsite::RunningCard;
-use child::Course;
-use exposure::Exposure;
-use roll::{GROUP_ROWS, ROLL_WORDS};
-use row::Row;
-use site::Scenario;
+use child::courses::Course;
+use files::CallFiles;
+use given::{GroupAnswers, RowAnswer};
+use roll::{GROUP_ROWS, Roll};
+use survey::ready::ReadyFiles;
 
 pub mod answers; // answers.rt: the answers in words
+mod courses; // courses.rt: the courses of its rows, month by month
+pub mod given; // given.rt: what its rows answer
+mod month; // month.rt: what all rows share in a month
 
 // What a group of a text's rows answers beside the answers themselves.
-#[derive(Clone, Copy)]
+#[derive(Clone, Copy, Debug, PartialEq, Eq)]
 pub struct GroupRead {
     pub rows: u32, // taken of the text
     pub decodes: u32, // of blocks of the book
     pub next: usize, // where the row after them starts, or the text's length
 }
 
-// How many months a row is run: up to its AGE, and none if it is skipped or refused.
-fn until(start: &Result<Option<RunningCard>, u32>) -> u64
-    ensures { result ≡ until_of (start_read start.now) }
+// What a row answers whose course is at its end.
+fn answer_of(start: &Result<Option<RunningCard>, u32>, course: &Course) -> RowAnswer
+    ensures { answer_read result ≡ end_answer (start_read start.now) (course_in course.now) }
 {
     match start {
-        Ok(Some(running)) => running.card.months(),
-        Ok(None) | Err(_) => 0,
+        Ok(Some(_)) => Ok(Some(course.blood?)),
+        Ok(None) => Ok(None),
+        Err(number) => Err(*number),
     }
 }
 
-// The later of two months.
-fn later(a: u64, b: u64) -> u64
-    ensures { result ≡ max a b }
+// What the rows of a roll answer over accepted files.
+fn row_answers(files: ReadyFiles, roll: &Roll) -> [RowAnswer; GROUP_ROWS]
+    ensures { answers_read (min roll.now.count rows_a_group) result ≡ map (start_answer steps_a_day files.entry.scenario.now files.entry.table.now) (starts_in (min roll.now.count rows_a_group) roll.now.words) }
 {
-    if a < b { b } else { a }
-}
-
-// The last month that a row of the roll is run.
-fn last_month(roll: &[u32], count: usize) -> u64
-    requires { (length roll.now ≡ roll_words) × (count ≤ rows_a_group) }
-    ensures { LastMonth roll.now count result }
-{
-    let mut last: u64 = 0;
-    let mut i: usize = 0;
-    while i < count {
-        let start = roll::start_at(roll, i);
-        let months = until(&start);
-        last = later(last, months);
-        i = i + 1;
+    let courses = courses::courses_of(files, roll);
+    let mut answers = [Ok(None); GROUP_ROWS];
+    for i in 0..roll.rows() {
+        answers[i] = answer_of(&roll.start_at(i), &courses[i]);
     }
-    last
+    answers
 }
 
-// A month more of a card's course after the months done: past its AGE it rests, and so it does if it is refused.
-fn card_month(
-    running: &RunningCard,
-    course: Course,
-    done: u64,
-    exposure: Exposure,
-    row: Row,
-    weight24: u64,
-) -> Course
-    requires { MonthLimits (row_exposure running.now.card exposure) row weight24 }
-    ensures { (scenario : Scenario) (table : List ℕ) → GroupMonth scenario table done exposure row weight24 → course ≡ course_by steps_a_day scenario table (Runs running.now.card) done → result ≡ course_by steps_a_day scenario table (Runs running.now.card) (done + 1) }
+// What the rows of a roll answer over these files, and how many blocks of the book were decoded.
+pub fn answers_of(files: &CallFiles, roll: &Roll) -> GroupAnswers
+    ensures rows { answers_read result.count result.rows ≡ roll_answers steps_a_day (files_in files.now) roll.now.count roll.now.words }
+    ensures decodes { result.decodes ≡ files_decodes (files_in files.now) }
 {
-    let card = &running.card;
-    let age = card.months();
-    if age <= done {
-        return course;
-    }
-    let own = cardsite::exposures::row_exposure(card, exposure);
-    child::courses::next_exposed(course, own, row, weight24)
-}
-
-// A month more of a row's course: a skipped or refused row rests.
-#[tactic(auto, unfolding(crate::specs::Internal::course_by))]
-fn row_month(
-    start: &Result<Option<RunningCard>, u32>,
-    course: Course,
-    done: u64,
-    exposure: Exposure,
-    row: Row,
-    weight24: u64,
-) -> Course
-    requires { MonthFor (start_read start.now) exposure row weight24 }
-    ensures { (scenario : Scenario) (table : List ℕ) → GroupMonth scenario table done exposure row weight24 → course ≡ course_by steps_a_day scenario table (start_read start.now) done → result ≡ course_by steps_a_day scenario table (start_read start.now) (done + 1) }
-{
-    match start {
-        Ok(Some(running)) => card_month(running, course, done, exposure, row, weight24),
-        Ok(None) | Err(_) => course,
-    }
-}
-
-// The courses of the rows of a roll, month by month: all to a month, whose exposure and row they share, before any goes on to the next.
-fn courses_of(scenario: Scenario, table: &[u32], roll: &[u32], count: usize) -> [Course; GROUP_ROWS]
-    requires { (length table.now ≡ table_numbers) × (Ready scenario table.now) × (length roll.now ≡ roll_words) × (count ≤ rows_a_group) }
-    ensures { CoursesRun steps_a_day scenario table.now roll.now count result }
-{
-    let birth = child::courses::at_birth(scenario, table);
-    let mut courses = [birth; GROUP_ROWS];
-    let last = last_month(roll, count);
-    let row24 = row::table::row_at(table, child::SATURATION_MONTH);
-    let weight24 = row24.body_weight;
-    let mut done: u64 = 0;
-    while done < last {
-        let month = done + 1;
-        let age = uptake::age::age_of(month);
-        let exposure = exposure::exposure_at(&scenario, age as usize);
-        let row = row::table::row_at(table, month as usize);
-        let mut i: usize = 0;
-        while i < count {
-            let start = roll::start_at(roll, i);
-            let course = courses[i];
-            let next = row_month(&start, course, done, exposure, row, weight24);
-            courses[i] = next;
-            i = i + 1;
-        }
-        done = month;
-    }
-    courses
-}
-
-// So many rows, or those of a full roll.
-pub fn rows_of(count: usize) -> usize
-    ensures { result ≡ min count rows_a_group }
-{
-    if count < GROUP_ROWS {
-        count
-    } else {
-        GROUP_ROWS
-    }
-}
-
-// The rows of a roll over a site file, a foods block if `has_foods` says so, and a rate book: their answers in words, and how many blocks of the
-// book were decoded.
-pub fn answer_roll(
-    site: &[u8],
-    has_foods: bool,
-    foods: &[u8],
-    book: &[u8],
-    roll: &[u32; ROLL_WORDS],
-    count: usize,
-    answers: &mut [u32; answers::WORDS],
-) -> u32
-    ensures value { result ≡ files_decodes (files_if has_foods site.now foods.now book.now) }
-    ensures answers_after { answers.new ≡ answered (roll_answers steps_a_day (files_if has_foods site.now foods.now book.now) count roll.now) answers.old }
-{
-    let rows = rows_of(count);
     let mut table = [0u32; TABLE_NUMBERS];
     let mut decodes = 0;
-    let call = files::call_files(site, has_foods, foods, book);
-    match call.read(&mut table, &mut decodes) {
+    let rows = match files.read(&mut table, &mut decodes) {
         Ok(scenario) => {
-            let courses = courses_of(scenario, &table, roll, rows);
-            answers::put_courses(roll, courses, rows, answers);
+            let ready = ReadyFiles {
+                scenario: &scenario,
+                table: &table,
+            };
+            row_answers(ready, roll)
         }
-        Err(refusal) => answers::put_refused(refusal.number(), rows, answers),
+        Err(refusal) => [Err(refusal.number()); GROUP_ROWS],
+    };
+    let count = roll.rows();
+    GroupAnswers {
+        rows,
+        count,
+        decodes,
     }
-    decodes
+}
+
+// The rows of a roll over these files: their answers in words, and how many blocks of the book were decoded.
+pub fn answer_roll(files: &CallFiles, roll: &Roll, words: &mut [u32; WORDS]) -> u32
+    ensures value { result ≡ files_decodes (files_in files.now) }
+    ensures answers_after { words.new ≡ answered (roll_answers steps_a_day (files_in files.now) roll.now.count roll.now.words) words.old }
+{
+    let answers = answers_of(files, roll);
+    answers.put_words(words);
+    answers.decodes
 }
 
 // The first rows of a text of rows, 64 at most, over these files: their answers in words, how many they are, and where the text goes on.
-pub fn answer_text(
-    site: &[u8],
-    has_foods: bool,
-    foods: &[u8],
-    book: &[u8],
-    rows: &[u8],
-    answers: &mut [u32; answers::WORDS],
-) -> GroupRead
-    ensures value { result ≡ group_read (files_if has_foods site.now foods.now book.now) rows.now }
-    ensures answers_after { answers.new ≡ answered (group_answers steps_a_day (files_if has_foods site.now foods.now book.now) rows.now) answers.old }
+pub fn answer_text(files: &CallFiles, text: &[u8], words: &mut [u32; WORDS]) -> GroupRead
+    ensures value { result ≡ group_read (files_in files.now) text.now }
+    ensures answers_after { words.new ≡ answered (group_answers steps_a_day (files_in files.now) text.now) words.old }
 {
-    let mut roll = [0u32; ROLL_WORDS];
-    let taken = roll::enrol_text(rows, &mut roll);
-    let decodes = answer_roll(site, has_foods, foods, book, &roll, taken.count, answers);
+    let mut roll = Roll::new();
+    let next = roll.enrol_text(text);
+    let decodes = answer_roll(files, &roll, words);
     GroupRead {
-        rows: taken.count as u32,
+        rows: roll.count as u32,
         decodes,
-        next: taken.next,
+        next,
     }
 }

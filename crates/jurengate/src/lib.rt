@@ -118,10 +118,17 @@ fn birth_into(
     ensures value { result ≡ (birth_of (files_if has_foods site.now foods.now book.now)).refusal }
     ensures state_after { state.new ≡ words_of (birth_of (files_if has_foods site.now foods.now book.now)).state }
 {
-    let answer = engine::birth(site, has_foods, foods, book);
-    let child = answer.state;
-    *state = words_of(child);
-    answer.refusal
+    let files = files::call_files(site, has_foods, foods, book);
+    match engine::birth(&files) {
+        Ok(child) => {
+            *state = words_of(child);
+            0
+        }
+        Err(refusal) => {
+            *state = words_of(state::zero_state());
+            refusal.number()
+        }
+    }
 }
 
 fn month_into(
@@ -138,11 +145,19 @@ fn month_into(
 {
     let words = *state;
     let child = state_of(words);
-    let answer = engine::month(child, site, has_foods, foods, book);
-    let next = answer.state;
-    *state = words_of(next);
-    *blood = answer.blood;
-    answer.refusal
+    let files = files::call_files(site, has_foods, foods, book);
+    match engine::month(&child, &files) {
+        Ok(end) => {
+            *state = words_of(end.state);
+            *blood = end.blood;
+            0
+        }
+        Err(refusal) => {
+            *state = words_of(child);
+            *blood = 0;
+            refusal.number()
+        }
+    }
 }
 
 fn run_into(
@@ -159,11 +174,12 @@ fn run_into(
     ensures state_after { state.new ≡ words_of (run_of steps_a_day (files_if has_foods site.now foods.now book.now) (length blood.old)).state }
     ensures months_after { months.new ≡ (run_answer (run_of steps_a_day (files_if has_foods site.now foods.now book.now) (length blood.old))).months }
 {
-    let answer = engine::run(site, has_foods, foods, book, blood);
-    let last = answer.state;
+    let files = files::call_files(site, has_foods, foods, book);
+    let run = engine::run(&files, blood);
+    let last = run.state;
     *state = words_of(last);
-    *months = answer.months;
-    answer.refusal
+    *months = run.months;
+    refusal::number_in(&run.end)
 }
 
 // Birth: the child at month 0, all zeros if it is refused.

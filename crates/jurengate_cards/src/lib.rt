@@ -27,10 +27,11 @@ pub fn jurengate_card_row(
     ensures blood_after { blood.new ≡ row_blood (row_answer steps_a_day (files_if has_foods site.now foods.now book.now) row.now) }
     ensures skipped_after { skipped.new ≡ row_skipped (row_answer steps_a_day (files_if has_foods site.now foods.now book.now) row.now) }
 {
-    let answer = survey::row_answer(site, has_foods, foods, book, row);
-    *blood = survey::values::blood_of(answer);
-    *skipped = survey::values::is_skipped(answer);
-    survey::values::number_of(answer)
+    let files = files::call_files(site, has_foods, foods, book);
+    let answer = survey::row_answer(&files, row);
+    *blood = answer.unwrap_or(None).unwrap_or(0);
+    *skipped = answer == Ok(None);
+    refusal::number_in(&answer)
 }
 
 // The first 64 rows of a text of rows, or all if it has fewer, over one reading of these files: their number, their answers in pairs, how many
@@ -50,7 +51,8 @@ pub fn jurengate_card_group(
     ensures decodes_after { decodes.new ≡ files_decodes (files_if has_foods site.now foods.now book.now) }
     ensures next_after { next.new ≡ line_start rows_a_group rows.now }
 {
-    let read = group::answer_text(site, has_foods, foods, book, rows, answers);
+    let files = files::call_files(site, has_foods, foods, book);
+    let read = group::answer_text(&files, rows, answers);
     *decodes = read.decodes;
     *next = read.next;
     read.rows

@@ -6,7 +6,7 @@ use Rattle.lines.specs.declared.Reader.{Reader}
 use Rattle.lines.specs.Stream.{after}
 use Rattle.lines.specs.Walk.{walk_of}
 use Rattle.lines.proofs.Walks.{walked}
-use Rattle.roll.specs.declared.Enrolled.{Enrolled}
+use Rattle.roll.specs.Enrolled.{Enrolled}
 use Rattle.roll.specs.Words.{rows_a_group}
 use Rattle.roll.specs.Enrol.{walk_enrolled, enrolled}
 

@@ -9,8 +9,9 @@ ghost use Rattle.lines.specs.Stream.{after};
 ghost use Rattle.roll.specs.Words.{rows_a_group};
 
 use console::{BOOK_READ, SITE_READ};
+use files::CallFiles;
 use lines::Reader;
-use roll::{GROUP_ROWS, ROLL_WORDS};
+use roll::{GROUP_ROWS, Roll};
 use std::fs::File;
 use std::io;
 use std::io::Read;
@@ -21,60 +22,58 @@ const PIECE_BYTES: usize = 512;
 // A text as far as it was read, over a site file and a book: the rows on the roll, fewer than a group, are not printed yet.
 #[derive(Drop)]
 struct Survey<'a> {
-    site: &'a [u8],
-    book: &'a [u8],
+    files: CallFiles<'a>,
     reader: Reader,
-    roll: [u32; ROLL_WORDS],
-    count: usize, // rows on the roll
+    roll: Roll,
 }
 
 impl<'a> Survey<'a> {
     // The start of a text.
     fn start(site: &'a [u8], book: &'a [u8]) -> Self
-        ensures { result.count < rows_a_group }
+        ensures { result.roll.count < rows_a_group }
     {
         Survey {
-            site,
-            book,
+            files: CallFiles {
+                site,
+                foods: None,
+                book,
+            },
             reader: Reader::before_text(),
-            roll: [0; ROLL_WORDS],
-            count: 0,
+            roll: Roll::new(),
         }
     }
 
     // Prints the lines of the rows on the roll.
     fn print_roll(&self, rt: &impl Print) -> io::Result<()> {
         let mut lines = Line::new();
-        cardline::put_lines(self.site, self.book, &self.roll, self.count, &mut lines);
+        cardline::put_lines(&self.files, &self.roll, &mut lines);
         rt.write_all(lines.bytes())
     }
 
     // Prints the lines of a full roll, and takes its rows off.
     fn print_full(&mut self, rt: &impl Print) -> io::Result<()>
-        ensures room { self.new.count < rows_a_group }
+        ensures room { self.new.roll.count < rows_a_group }
         ensures reader_kept { self.new.reader ≡ self.old.reader }
     {
-        if self.count < GROUP_ROWS {
+        if self.roll.count < GROUP_ROWS {
             return Ok(());
         }
         let written = self.print_roll(rt);
-        self.count = 0;
+        self.roll.count = 0;
         written
     }
 
     // Puts the rows that end in a piece on the roll, and prints each group that is full, up to the first that cannot be written, whose error it
     // answers; then the reader is where the piece leads. A step goes up to the end of a row: no index counts it.
     fn read_piece(&mut self, rt: &impl Print, piece: &[u8]) -> io::Result<()>
-        requires { self.old.count < rows_a_group }
-        ensures room { self.new.count < rows_a_group }
+        requires { self.old.roll.count < rows_a_group }
+        ensures room { self.new.roll.count < rows_a_group }
         ensures reader_value { OnOk result (self.new.reader ≡ after self.old.reader piece.now) }
     {
         let mut rest = piece;
         while !rest.is_empty() {
-            let read = roll::enrol_next(self.reader, rest, &mut self.roll, self.count);
-            self.reader = read.reader;
-            self.count = read.count;
-            rest = &rest[read.used..];
+            let used = self.roll.enrol_next(&mut self.reader, rest);
+            rest = &rest[used..];
             self.print_full(rt)?;
         }
         Ok(())
@@ -82,7 +81,7 @@ impl<'a> Survey<'a> {
 
     // Prints the lines of the rows on the roll, if there are any.
     fn print_rest(&self, rt: &impl Print) -> io::Result<()> {
-        if self.count > 0 {
+        if self.roll.count > 0 {
             self.print_roll(rt)?;
         }
         Ok(())
@@ -96,7 +95,7 @@ impl<'a> Survey<'a> {
         rt: &R,
         file: &mut F,
     ) -> io::Result<()>
-        requires { self.old.count < rows_a_group }
+        requires { self.old.roll.count < rows_a_group }
     {
         let mut buffer = [0u8; PIECE_BYTES];
         for _ in 0..u64::MAX {
@@ -109,7 +108,7 @@ impl<'a> Survey<'a> {
                 }
             }
         }
-        self.count = roll::enrol_last(self.reader, &mut self.roll, self.count);
+        self.roll.enrol_last(&self.reader);
         self.print_rest(rt)
     }
 }

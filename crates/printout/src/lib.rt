@@ -30,10 +30,11 @@ pub fn prepare(site: &[u8], book: &[u8]) -> Prepared
     ensures { result ≡ prepared_of (files_of site.now book.now) }
 {
     let mut blood = [0u32; MONTHS];
-    let answer = engine::run(site, false, &site[..0], book, &mut blood);
+    let files = files::call_files(site, false, &site[..0], book);
+    let run = engine::run(&files, &mut blood);
     Prepared {
-        refusal: answer.refusal,
-        months: answer.months,
+        refusal: refusal::number_in(&run.end),
+        months: run.months,
         blood,
     }
 }

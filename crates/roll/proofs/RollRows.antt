@@ -2,23 +2,16 @@
 -- Assumes nothing.
 use Prim.Native.Nat.{ℕ, zero, suc, ◌+◌, ◌≤◌, ◌<◌}
 use mathlib.Core.Path.{◌≡◌, refl, sym, ap, ap₂, ◌∙◌}
-use mathlib.Core.Bool.{true, false}
 use mathlib.Core.List.{List, [], ◌∷◌, ◌++◌, map, append-nil, append_assoc}
 use native.Mathlib.Omega.{arith}
 use native.Mathlib.Numerals.{add-one}
-use borrow.Author.Tests.{le-leb, lt-leb}
 use lib.ListN.{length}
 use Rattle.numbers.proofs.Parts.{placed_same, placed-other, placed_long}
 use Rattle.lines.specs.declared.RowText.{RowText}
-use Rattle.lines.specs.declared.Reader.{Reader}
-use Rattle.std.specs.Prelude.{None, Some}
-use Rattle.lines.specs.declared.Passed.{Passed}
-use Rattle.lines.specs.Passed.{walk_with}
-use Rattle.lines.specs.Walk.{walk_of}
 use Rattle.card.specs.Row.{read_kept}
 use Rattle.cardsite.specs.Start.{start_of}
 use Rattle.roll.specs.Words.{rows_a_group, words_a_row, roll_words, start_words, start_in, start_at, starts_in}
-use Rattle.roll.specs.Enrol.{with_row, with_rows, enrolled, rolled, count_with_last, rolled_last}
+use Rattle.roll.specs.Enrol.{with_row, with_rows}
 use Rattle.roll.specs.Laws.{RollLaw}
 use Rattle.roll.proofs.RowWords.{words_law, words_long}
 
@@ -59,34 +52,3 @@ rolled_rows n (kept ∷ rows) roll long few =
     (rolled_rows (suc n) rows (with_row n kept roll) (with_row_long roll long n (omega arith) kept) (omega arith)
     ∙ ap (◌++ map (λ (k : RowText). start_of (read_kept k)) rows) (ap (λ m. starts_in m (with_row n kept roll)) (sym (add-one n)) ∙ roll_law roll long n (omega arith) kept)
     ∙ append_assoc (starts_in n roll) (start_of (read_kept kept) ∷ []) (map (λ (k : RowText). start_of (read_kept k)) rows))
-
--- the number of rows, and the roll, by the code's tests: a full roll takes none
-module _ (n : ℕ) (roll : List ℕ) where
-  module _ (r : Reader) where
-    pub last_full : rows_a_group ≤ n → (n ≡ count_with_last r n) × (roll ≡ rolled_last r n roll)
-    unfolding count_with_last rolled_last
-    last_full h = (rw (le-leb rows_a_group n h), rw (le-leb rows_a_group n h))
-
-    module _ (h : n < rows_a_group) where
-      pub last_row : r.begun ≡ true → {after : List ℕ} → after ≡ with_row n r.row roll → (n + 1 ≡ count_with_last r n) × (after ≡ rolled_last r n roll)
-      unfolding count_with_last rolled_last
-      last_row b e = (rw (lt-leb rows_a_group n h, b), rw (lt-leb rows_a_group n h, b) e)
-
-      pub last_none : r.begun ≡ false → (n ≡ count_with_last r n) × (roll ≡ rolled_last r n roll)
-      unfolding count_with_last rolled_last
-      last_none b = (rw (lt-leb rows_a_group n h, b), rw (lt-leb rows_a_group n h, b))
-
-  module _ (r : Reader) (piece : List ℕ) where
-    pub next_full : rows_a_group ≤ n → (record { reader = r; used = 0; count = n } ≡ enrolled r piece n) × (roll ≡ rolled r piece n roll)
-    unfolding enrolled rolled
-    next_full h = (rw (le-leb rows_a_group n h), rw (le-leb rows_a_group n h))
-
-    module _ (h : n < rows_a_group) (p : Passed) (s : Reader) (ew : walk_with p s ≡ walk_of r piece) where
-      pub next_row : (row : RowText) → p.row ≡ Some row → {after : List ℕ} → after ≡ with_row n row roll
-          → (record { reader = s; used = p.used; count = n + 1 } ≡ enrolled r piece n) × (after ≡ rolled r piece n roll)
-      unfolding enrolled rolled
-      next_row row b e = (rw (lt-leb rows_a_group n h, ← ew, b), rw (lt-leb rows_a_group n h, ← ew, b) e)
-
-      pub next_none : p.row ≡ None → (record { reader = s; used = p.used; count = n } ≡ enrolled r piece n) × (roll ≡ rolled r piece n roll)
-      unfolding enrolled rolled
-      next_none b = (rw (lt-leb rows_a_group n h, ← ew, b), rw (lt-leb rows_a_group n h, ← ew, b))

@@ -7,7 +7,7 @@ use mathlib.Core.List.{List, [], ◌∷◌, ◌++◌, map, append-nil, append_as
 use native.Mathlib.Omega.{arith}
 use native.Mathlib.Decide.{dec_lt}
 use borrow.Author.Tests.{le-leb, lt-leb}
-use lib.ListN.{length, take, drop, length-append, length-map, length-drop, drop_of_length-le}
+use lib.ListN.{length, take, drop, length-replicate, length-append, length-map, length-drop, drop_of_length-le}
 use lib.Seq.{drop-drop, take_at, take_all, length-take-le}
 use Rattle.lines.specs.declared.RowText.{RowText}
 use Rattle.lines.specs.declared.Reader.{Reader}
@@ -22,7 +22,9 @@ use Rattle.lines.proofs.LineStarts.{LineWalked, line_walked, rows_left, left_wal
 use Rattle.card.specs.Row.{read_row, read_kept}
 use Rattle.card.proofs.Rows.{row_read}
 use Rattle.cardsite.specs.Start.{Start, start_of}
-use Rattle.roll.specs.declared.Enrolled.{Enrolled}
+use Rattle.roll.specs.declared.Roll.{Roll}
+use Rattle.roll.specs.Blank.{blank}
+use Rattle.roll.specs.Enrolled.{Enrolled}
 use Rattle.roll.specs.Words.{rows_a_group, roll_words, starts_in}
 use Rattle.roll.specs.Enrol.{with_row, enrolled, rolled, count_with_last, rolled_last, group_of}
 use Rattle.roll.specs.Internal.{TextEnrolled}
@@ -58,9 +60,9 @@ pub record InText (text roll : List ℕ) (r : Reader) (n at : ℕ) : Type 0 wher
   pub next : line_start rows_a_group text ≡ at + line_start (rows_a_group - n) (drop at text)
   pub rows : starts_in n roll ++ starts_kept (rows_left r (drop at text)) ≡ starts_of (lines_of text)
 
-pub text_start : (text roll : List ℕ) {r : Reader} → length roll ≡ roll_words → r ≡ row_start → InText text roll r 0 0
+none_read : (text words : List ℕ) {r : Reader} → length words ≡ roll_words → r ≡ row_start → InText text words r 0 0
 unfolding starts_in
-text_start text roll long e =
+none_read text words long e =
     record {
       reach = omega arith;
       within = omega arith;
@@ -69,6 +71,9 @@ text_start text roll long e =
       next = omega arith;
       rows = rw e (ap starts_kept (plain_rows text) ∙ starts_kept_lem (lines_of text));
     }
+
+pub text_start : (text : List ℕ) {roll : Roll} {r : Reader} → roll ≡ blank → r ≡ row_start → InText text roll.words r roll.count 0
+text_start text e start = rw e (none_read text blank.words (length-replicate {A = ℕ} roll_words 0) start)
 
 module _ {text roll : List ℕ} {r : Reader} {n at : ℕ} (inv : InText text roll r n at) where
   module _ (h : n < rows_a_group) (more : at < length text) where
@@ -169,7 +174,7 @@ module _ {text roll : List ℕ} {r : Reader} {n at : ℕ} (inv : InText text rol
   lines_all m full more e =
       sym (length-map (lines_of text) _) ∙ sym (ap length e) ∙ length-append (starts_in m full) more ∙ ap (◌+ length more) (starts_long m full)
 
-  pub rows_full : rows_a_group ≤ n → TextEnrolled text roll (record { count = n; next = at })
+  rows_full : rows_a_group ≤ n → TextEnrolled text roll (record { count = n; next = at })
   unfolding group_of line_start
   rows_full full =
       let whole : n ≡ rows_a_group = omega (arith, inv.reach) in
@@ -211,11 +216,16 @@ module _ {text roll : List ℕ} {r : Reader} {n at : ℕ} (inv : InText text rol
     by_begun true e = all_taken (n + 1) _ (omega arith) (roll_law roll inv.long n h r.row ∙ rw e at rows_left_lem)
     by_begun false e = all_taken n roll inv.reach (sym (append-nil (starts_in n roll)) ∙ rw e at rows_left_lem)
 
-  -- the end of the text
-  pub text_end : length text ≤ at → {m : ℕ} {full : List ℕ} → m ≡ count_with_last r n → full ≡ rolled_last r n roll → TextEnrolled text full (record { count = m; next = at })
-  unfolding count_with_last rolled_last
-  text_end end {m} {full} em ef = by (dec_lt n rows_a_group)
-    where
-      by : Dec (n < rows_a_group) → TextEnrolled text full (record { count = m; next = at })
-      by (yes h) = rw (em, ef, lt-leb rows_a_group n h) (by_begun h end r.begun refl)
-      by (no h) = rw (em, ef, le-leb rows_a_group n (omega arith)) (rows_full (omega arith))
+  -- the end of the text, and a full roll
+  module _ {m : ℕ} {full : List ℕ} (em : m ≡ count_with_last r n) (ef : full ≡ rolled_last r n roll) where
+    pub roll_full : rows_a_group ≤ n → TextEnrolled text full (record { count = m; next = at })
+    unfolding count_with_last rolled_last
+    roll_full h = rw (em, ef, le-leb rows_a_group n h) (rows_full h)
+
+    pub text_end : length text ≤ at → TextEnrolled text full (record { count = m; next = at })
+    unfolding count_with_last rolled_last
+    text_end end = by (dec_lt n rows_a_group)
+      where
+        by : Dec (n < rows_a_group) → TextEnrolled text full (record { count = m; next = at })
+        by (yes h) = rw (em, ef, lt-leb rows_a_group n h) (by_begun h end r.begun refl)
+        by (no h) = roll_full (omega arith)

@@ -9,7 +9,7 @@ use Rattle.lines.specs.Text.{lines_of}
 use Rattle.lines.specs.Walk.{walk_of}
 use Rattle.card.specs.Row.{read_kept}
 use Rattle.cardsite.specs.Start.{start_of}
-use Rattle.roll.specs.declared.Enrolled.{Enrolled}
+use Rattle.roll.specs.Enrolled.{Enrolled}
 use Rattle.roll.specs.Words.{rows_a_group, words_a_row, start_words}
 
 -- the roll with a row, of what is kept of it, at place i

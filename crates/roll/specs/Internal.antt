@@ -6,7 +6,7 @@ use Rattle.card.specs.declared.Card.{Card}
 use Rattle.card.specs.Row.{read_row}
 use Rattle.card.specs.Values.{months_of}
 use Rattle.cardsite.specs.Start.{start_of}
-use Rattle.roll.specs.declared.RowsTaken.{RowsTaken}
+use Rattle.roll.specs.RowsTaken.{RowsTaken}
 use Rattle.roll.specs.Words.{rows_a_group, gap_word, word_of, starts_in}
 use Rattle.roll.specs.Enrol.{group_of}
 

@@ -4,7 +4,7 @@
 ghost use Rattle.std.specs.Prelude.{◌≡◌, ◌≤◌, length};
 ghost use Rattle.row.specs.Row.{last_month};
 ghost use Rattle.book.specs.Book.{table_numbers};
-ghost use Rattle.child.specs.Internal.{Decoded};
+ghost use Rattle.child.specs.Decoded.{Decoded};
 ghost use Rattle.files.specs.Files.{files_if};
 ghost use Rattle.routes.specs.Sums.{monthly_sums};
 ghost use Rattle.routes.specs.Internal.{exposed_sums, sums_in, by_route};

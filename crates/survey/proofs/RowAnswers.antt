@@ -1,20 +1,27 @@
 -- What a row answers, by its files, by its start and by its child's course.
 -- Assumes nothing.
-use mathlib.Core.Path.{◌≡◌, sym, ◌∙◌}
+use mathlib.Core.Path.{◌≡◌, refl, sym, ◌∙◌}
 use mathlib.Core.List.{List}
 use Prim.Native.Nat.{ℕ}
+use Rattle.std.proofs.Common.{Result, Ok, Err}
 use Rattle.numbers.proofs.Refusals.{answer_refused}
+use Rattle.refusal.specs.declared.Refusal.{Refusal}
+use Rattle.refusal.specs.Refusal.{number_of}
+use Rattle.block.proofs.RefusalNumbers.{some_number}
 use Rattle.site.specs.declared.Scenario.{Scenario}
 use Rattle.site.proofs.FieldsWithin.{accepted_fits, mother_accepted}
+use Rattle.exposure.proofs.ExposureWithin.{exposure_within}
 use Rattle.book.proofs.RowsWithin.{rows_within}
 use Rattle.files.specs.FilesRead.{FilesRead}
 use Rattle.files.specs.Files.{Files, files_refusal, scenario_in, table_in}
 use Rattle.files.specs.Internal.{FilesAreRead}
 use Rattle.files.proofs.FilesPassed.{site_passed, book_passed}
 use Rattle.engine.proofs.FilesDecoded.{files_passed, read_as_lem}
-use Rattle.child.specs.declared.Course.{Course}
+use Rattle.child.specs.declared.courses.Course as code
+use Rattle.child.specs.Answers.{Course}
+use Rattle.child.specs.Outcomes.{course_with, course_in}
 use Rattle.child.specs.Course.{course_at}
-use Rattle.child.specs.Internal.{Decoded}
+use Rattle.child.specs.Decoded.{Decoded}
 use Rattle.lines.specs.declared.RowText.{RowText}
 use Rattle.card.specs.declared.Card.{Card}
 use Rattle.card.specs.Row.{read_kept}
@@ -24,8 +31,7 @@ use Rattle.cardsite.specs.Fields.{row_scenario}
 use Rattle.cardsite.specs.Running.{Running}
 use Rattle.cardsite.proofs.RowLaws.{row_within}
 use Rattle.cardsite.proofs.RowValues.{row_mother}
-use Rattle.survey.specs.declared.RowAnswer.{RowAnswer}
-use Rattle.survey.specs.declared.RowAnswer.TheVariants.{Blood, Refused}
+use Rattle.survey.specs.RowAnswer.{Blood, Refused, blood_in}
 use Rattle.survey.specs.Survey.{course_answer, card_answer, start_answer, kept_answer}
 use Rattle.survey.specs.Internal.{Ready}
 
@@ -36,7 +42,10 @@ course_refused c h = sym (answer_refused (Blood c.blood) Refused c.refusal h)
 pub course_runs : (c : Course) → c.refusal ≡ 0 → Blood c.blood ≡ course_answer c
 course_runs c e = rw e
 
--- a card that runs has a scenario within the limits
+-- the yard's own scenario is within the limits, and that of a card that runs
+pub ready_decoded : {scenario : Scenario} {table : List ℕ} → Ready scenario table → Decoded scenario table
+ready_decoded {scenario} ready = record { exposure = exposure_within scenario ready.fields.fit; mother = ready.mother; row = ready.row }
+
 pub row_decoded : (c : Card) → Running c → (scenario : Scenario) (table : List ℕ) → Ready scenario table → Decoded (row_scenario c scenario) table
 row_decoded c run scenario table ready =
     record {
@@ -45,13 +54,20 @@ row_decoded c run scenario table ready =
       row = ready.row;
     }
 
--- its answer is that of the course that the code runs
+-- its figure is that of the course that the code runs
+pub blood_is : (c : code.Course) → blood_in c.blood ≡ course_answer (course_in c)
+blood_is c = by c.blood
+  where
+    by : (blood : Result ℕ Refusal) → blood_in blood ≡ course_answer (course_with c.state blood)
+    by (Ok blood) = refl
+    by (Err r) = sym (answer_refused (Blood 0) Refused (number_of r) (some_number r))
+
 pub card-answered :
-    (s : ℕ) (c : Card) (scenario : Scenario) (table : List ℕ) {row : Scenario} {age : ℕ} {course : Course} {r : RowAnswer}
-    → row ≡ row_scenario c scenario → age ≡ months_of c.age → course ≡ course_at s row table age → r ≡ course_answer course
-    → r ≡ card_answer s scenario table c
+    (s : ℕ) (c : Card) (scenario : Scenario) (table : List ℕ) {row : Scenario} {age : ℕ} (course : code.Course)
+    → row ≡ row_scenario c scenario → age ≡ months_of c.age → course_in course ≡ course_at s row table age
+    → blood_in course.blood ≡ card_answer s scenario table c
 unfolding card_answer
-card-answered s c scenario table er ea ec e = e ∙ rw (ec, er, ea)
+card-answered s c scenario table course er ea ec = blood_is course ∙ rw (ec, er, ea)
 
 -- accepted files
 pub files_ready : (f : Files) → files_refusal f ≡ 0 → Ready (scenario_in f) (table_in f)

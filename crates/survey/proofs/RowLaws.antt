@@ -8,7 +8,7 @@ use Rattle.numbers.proofs.Refusals.{answer_refused}
 use Rattle.row.specs.Row.{last_month}
 use Rattle.files.specs.Files.{Files, files_refusal, scenario_in, table_in}
 use Rattle.engine.proofs.RunCourse.{run_course}
-use Rattle.child.specs.declared.Course.{Course}
+use Rattle.child.specs.Answers.{Course}
 use Rattle.child.specs.Course.{course_at}
 use Rattle.child.specs.Months.{MonthsRun}
 use Rattle.child.specs.Laws.{AsInRun}
@@ -19,8 +19,8 @@ use Rattle.card.proofs.Rows.{row_read}
 use Rattle.cardsite.specs.Start.{start_of}
 use Rattle.cardsite.specs.Fields.{row_scenario}
 use Rattle.cardsite.proofs.Starts.{runs_within}
-use Rattle.survey.specs.declared.RowAnswer.{RowAnswer}
-use Rattle.survey.specs.declared.RowAnswer.TheVariants.{Blood, Refused}
+use Rattle.survey.specs.RowAnswer.{RowAnswer}
+use Rattle.survey.specs.RowAnswer.{Blood, Refused}
 use Rattle.survey.specs.Survey.{course_answer, card_answer, files_then, row_answer, kept_answer}
 use Rattle.survey.specs.Laws.{KeptLaw, FilesFirst, Runs, AsTheRun, OwnRunLaw, RunLaw}
 use Rattle.survey.proofs.RowAnswers.{course_refused, course_runs}

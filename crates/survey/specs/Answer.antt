@@ -1,8 +1,8 @@
 -- A row's answer in the paper's number and values, for each of its cases.
 -- Assumes nothing.
 use Rattle.std.specs.Prelude.{ℕ, Bool, true, false}
-use Rattle.survey.specs.declared.RowAnswer.{RowAnswer}
-use Rattle.survey.specs.declared.RowAnswer.TheVariants.{Blood, Skipped, Refused}
+use Rattle.survey.specs.RowAnswer.{RowAnswer}
+use Rattle.survey.specs.RowAnswer.{Blood, Skipped, Refused}
 
 -- the number: a row that runs and a row that is skipped are not refused
 abbrev pub row_number : RowAnswer → ℕ

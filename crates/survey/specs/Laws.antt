@@ -13,8 +13,8 @@ use Rattle.card.specs.Values.{months_of}
 use Rattle.cardsite.specs.Start as start
 use Rattle.cardsite.specs.Start.{start_of}
 use Rattle.cardsite.specs.Fields.{row_scenario}
-use Rattle.survey.specs.declared.RowAnswer.{RowAnswer}
-use Rattle.survey.specs.declared.RowAnswer.TheVariants.{Blood, Refused}
+use Rattle.survey.specs.RowAnswer.{RowAnswer}
+use Rattle.survey.specs.RowAnswer.{Blood, Refused}
 use Rattle.survey.specs.Survey.{row_answer, kept_answer}
 
 -- what is kept of a row answers as the row

@@ -4,7 +4,7 @@ use Rattle.std.specs.Prelude.{ℕ, List}
 use Rattle.numbers.specs.Choice.{answer_by}
 use Rattle.site.specs.declared.Scenario.{Scenario}
 use Rattle.files.specs.Files.{Files, files_refusal, scenario_in, table_in}
-use Rattle.child.specs.declared.Course.{Course}
+use Rattle.child.specs.Answers.{Course}
 use Rattle.child.specs.Course.{course_at}
 use Rattle.lines.specs.declared.RowText.{RowText}
 use Rattle.card.specs.declared.Card.{Card}
@@ -13,8 +13,8 @@ use Rattle.card.specs.Values.{months_of}
 use Rattle.cardsite.specs.Start.{Start, start_of}
 use Rattle.cardsite.specs.Start as start
 use Rattle.cardsite.specs.Fields.{row_scenario}
-use Rattle.survey.specs.declared.RowAnswer.{RowAnswer}
-use Rattle.survey.specs.declared.RowAnswer.TheVariants.{Blood, Skipped, Refused}
+use Rattle.survey.specs.RowAnswer.{RowAnswer}
+use Rattle.survey.specs.RowAnswer.{Blood, Skipped, Refused}
 
 -- what a course up to AGE answers: the first refusal, birth's 22 or 9 or 22 of a month, else the blood at its end
 abbrev pub course_answer : Course → RowAnswer

@@ -1,89 +1,78 @@
 // A row of a batch card over a site file, a foods block or none, and a rate book, of any length and content: its answer.
 #![tactic(auto)]
 
-ghost use Rattle.std.specs.Prelude.{◌≡◌, length};
-ghost use Rattle.book.specs.Book.{table_numbers};
+ghost use Rattle.std.specs.Prelude.{◌≡◌};
 ghost use Rattle.card.specs.Row.{read_kept};
 ghost use Rattle.cardsite.specs.Start.{start_of};
-ghost use Rattle.files.specs.Files.{files_if};
+ghost use Rattle.files.specs.CallFiles.{files_in};
 ghost use Rattle.steps.specs.Steps.{steps_a_day};
-ghost use Rattle.survey.specs.Survey.{course_answer, card_answer, start_answer, kept_answer, row_answer};
-ghost use Rattle.survey.specs.Internal.{Ready};
+ghost use Rattle.survey.specs.RowAnswer.{answer_in, blood_in};
+ghost use Rattle.survey.specs.Survey.{card_answer, start_answer, kept_answer, row_answer};
 
 use book::TABLE_NUMBERS;
 use cardsite::RunningCard;
-use child::Course;
+use child::given::Accepted;
+use files::CallFiles;
 use lines::RowText;
-use site::Scenario;
+use ready::ReadyFiles;
+use refusal::Refusal;
 
-pub mod values; // values.rt: an answer's number and values
+pub mod ready; // ready.rt: what accepted files give the rows of a card
 
-// What a row answers: the blood figure at its AGE in thousandths of ug/dL, that it is skipped, or why it is refused.
-#[derive(Clone, Copy)]
-pub enum RowAnswer {
-    Blood(u32),
-    Skipped,
-    Refused(u32),
-}
-
-// What a child's course up to AGE answers.
-pub fn course_answer(course: Course) -> RowAnswer
-    ensures { result ≡ course_answer course }
-{
-    let refusal = course.refusal;
-    if refusal != 0 {
-        return RowAnswer::Refused(refusal);
+impl<'a> ReadyFiles<'a> {
+    // What they give a child of the yard itself.
+    pub fn of_yard(&self) -> Accepted<'a>
+        ensures scenario { result.scenario ≡ self.now.scenario }
+        ensures table { result.table ≡ self.now.table }
+    {
+        Accepted {
+            scenario: self.scenario,
+            table: self.table,
+        }
     }
-    let blood = course.blood;
-    RowAnswer::Blood(blood)
-}
 
-// What a card answers that is neither refused nor skipped: birth, and the months up to its AGE.
-fn card_answer(running: &RunningCard, scenario: Scenario, table: &[u32]) -> RowAnswer
-    requires { (length table.now ≡ table_numbers) × (Ready scenario table.now) }
-    ensures { result ≡ card_answer steps_a_day scenario table.now running.now.card }
-{
-    let row = cardsite::row_scenario(&running.card, &scenario);
-    let age = running.card.months();
-    let course = child::courses::to_month(row, table, age as u32);
-    course_answer(course)
-}
+    // The blood figure at the AGE of a card that runs, in thousandths of ug/dL: birth, and the months up to it.
+    fn card_blood(&self, running: &RunningCard) -> Result<u32, Refusal>
+        ensures { blood_in result ≡ card_answer steps_a_day self.now.scenario.now self.now.table.now running.now.card }
+    {
+        let scenario = cardsite::row_scenario(&running.card, self.scenario);
+        let own = Accepted {
+            scenario: &scenario,
+            table: self.table,
+        };
+        let age = running.card.months();
+        own.course(age as u32).blood
+    }
 
-// What a row answers that accepted files have.
-fn start_answer(kept: &RowText, scenario: Scenario, table: &[u32]) -> RowAnswer
-    requires { (length table.now ≡ table_numbers) × (Ready scenario table.now) }
-    ensures { result ≡ start_answer steps_a_day scenario table.now (start_of (read_kept kept.now)) }
-{
-    match cardsite::start_row(kept) {
-        Ok(Some(running)) => card_answer(&running, scenario, table),
-        Ok(None) => RowAnswer::Skipped,
-        Err(refusal) => RowAnswer::Refused(refusal.number()),
+    // What a row answers that accepted files have: no figure where it is skipped.
+    fn answer(&self, kept: &RowText) -> Result<Option<u32>, Refusal>
+        ensures { answer_in result ≡ start_answer steps_a_day self.now.scenario.now self.now.table.now (start_of (read_kept kept.now)) }
+    {
+        match cardsite::start_row(kept)? {
+            Some(running) => Ok(Some(self.card_blood(&running)?)),
+            None => Ok(None),
+        }
     }
 }
 
 // What a row answers, of what is kept of it.
-pub fn kept_answer(
-    site: &[u8],
-    has_foods: bool,
-    foods: &[u8],
-    book: &[u8],
-    kept: &RowText,
-) -> RowAnswer
-    ensures { result ≡ kept_answer steps_a_day (files_if has_foods site.now foods.now book.now) kept.now }
+pub fn kept_answer(files: &CallFiles, kept: &RowText) -> Result<Option<u32>, Refusal>
+    ensures { answer_in result ≡ kept_answer steps_a_day (files_in files.now) kept.now }
 {
     let mut table = [0u32; TABLE_NUMBERS];
     let mut decodes = 0;
-    let call = files::call_files(site, has_foods, foods, book);
-    match call.read(&mut table, &mut decodes) {
-        Ok(scenario) => start_answer(kept, scenario, &table),
-        Err(refusal) => RowAnswer::Refused(refusal.number()),
-    }
+    let scenario = files.read(&mut table, &mut decodes)?;
+    let ready = ReadyFiles {
+        scenario: &scenario,
+        table: &table,
+    };
+    ready.answer(kept)
 }
 
 // What a row answers, of its bytes: a line feed is one like others.
-pub fn row_answer(site: &[u8], has_foods: bool, foods: &[u8], book: &[u8], row: &[u8]) -> RowAnswer
-    ensures { result ≡ row_answer steps_a_day (files_if has_foods site.now foods.now book.now) row.now }
+pub fn row_answer(files: &CallFiles, row: &[u8]) -> Result<Option<u32>, Refusal>
+    ensures { answer_in result ≡ row_answer steps_a_day (files_in files.now) row.now }
 {
     let kept = RowText::of(row);
-    kept_answer(site, has_foods, foods, book, &kept)
+    kept_answer(files, &kept)
 }

@@ -1,21 +1,18 @@
--- `survey::kept_answer` meets its contract.
-use Rattle.std.proofs.Common.{refl, ap, ◌∙◌}
+-- `survey::kept_answer` meets its contract: the files' refusal, or the answer over them.
+use Rattle.std.proofs.Common.{refl, ◌∙◌}
+use Rattle.std.proofs.lemmas.Result.{err_from_is_err_and}
 use Rattle.block.proofs.RefusalNumbers.{some_number}
 use Rattle.steps.specs.Steps.{steps_a_day}
-use Rattle.files.proofs.ReadAnswers.{read_same}
-use Rattle.engine.proofs.FilesDecoded.{files_long}
-use Rattle.survey.specs.declared.RowAnswer.TheVariants.{Refused}
 use Rattle.survey.proofs.RowAnswers.{files_refused, files_read_ready, files_answered}
 use Rattle.survey.proofs.kept_answer.Goals as goal
 
-pub start_answer-requires : goal.start_answer-requires
-start_answer-requires c =
-    let read = read_same c.call_files-call.ensures c.in-Ok.ensures in
-    (files_long read refl, files_read_ready read refl)
+pub returns-in_err-scenario : goal.returns-in_err-scenario
+returns-in_err-scenario c =
+    let p = err_from_is_err_and c.from_residual.result c.from_residual.ensures.1 in
+    rw (p.1, p.2) (files_refused c.in_err-scenario.ensures steps_a_day c.args.kept.now (some_number _))
 
-pub returns-in-Ok : goal.returns-in-Ok
-returns-in-Ok c = c.start_answer.ensures ∙ files_answered (read_same c.call_files-call.ensures c.in-Ok.ensures) refl steps_a_day _
+pub invariant_of-ready : goal.invariant_of-ready
+invariant_of-ready c = record { ready = files_read_ready c.in_ok-scenario.ensures refl }
 
-pub returns-in-Err : goal.returns-in-Err
-returns-in-Err c =
-    ap (λ n. Refused n) c.number.ensures ∙ files_refused (read_same c.call_files-call.ensures c.in-Err.ensures) steps_a_day c.args.kept (some_number _)
+pub returns : goal.returns
+returns c = c.answer.ensures ∙ files_answered c.in_ok-scenario.ensures refl steps_a_day _

@@ -1,4 +1,4 @@
--- `survey::row_answer` meets its contract.
+-- `survey::row_answer` meets its contract: what is kept of a row answers as the row.
 use mathlib.Core.Path.{◌∙◌}
 use Rattle.steps.specs.Steps.{steps_a_day}
 use Rattle.survey.proofs.RowLaws.{kept_law}

@@ -1,12 +1,15 @@
 -- `cardline::rows::put_rows` meets its contract: each line put after the one before.
-use Rattle.std.proofs.Common.{rules, arith, add-one}
-use Rattle.cardline.specs.Internal.{lines_in}
+use Rattle.std.proofs.Common.{rules, arith, ◌∙◌}
+use Rattle.cardline.specs.Cardline.{joined}
+use Rattle.cardline.proofs.GroupLines.{lines_more}
 use Rattle.cardline.proofs.rows.put_rows.Goals as goal
 
-pub loop-i-init : goal.loop-i-init
-unfolding lines_in
-loop-i-init c = search rules
+pub loop-answer-init : goal.loop-answer-init
+unfolding joined
+loop-answer-init c = search rules
 
-pub loop-i-preserved : goal.loop-i-preserved
-unfolding lines_in
-loop-i-preserved c = (rw add-one (search rules), omega (arith, c.put_row.ensures.most, c.loop-i.invariant.1))
+pub loop-answer-preserved : goal.loop-answer-preserved
+loop-answer-preserved c = (
+  c.put_row.ensures.bytes ∙ rw c.loop-answer.invariant.0 (lines_more c.args.answers.now c.loop-answer.answer-index c.loop-answer-test.true),
+  omega (arith, c.put_row.ensures.most, c.loop-answer.invariant.1),
+)

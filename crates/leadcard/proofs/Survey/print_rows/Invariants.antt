@@ -4,4 +4,4 @@ use Rattle.roll.specs.Words.{rows_a_group}
 use Rattle.leadcard.proofs.Survey.print_rows.Given as goal
 
 abbrev pub invariant-loop : goal.invariant-loop
-invariant-loop g l = l.self.count < rows_a_group
+invariant-loop g l = l.self.roll.count < rows_a_group

@@ -4,16 +4,16 @@ use Rattle.leadcard.proofs.Onward.{used_within, left_smaller, left_leads}
 use Rattle.leadcard.proofs.Survey.read_piece.Goals as goal
 
 pub slice_bounds-rest-count : goal.slice_bounds-rest-count
-slice_bounds-rest-count g c = used_within _ _ _ c.loop-rest.invariant.0 c.enrol_next-read.ensures.value
+slice_bounds-rest-count g c = used_within _ _ _ c.loop-rest.invariant.0 c.enrol_next-used.ensures.read
 
 pub slice_bounds-rest-start : goal.slice_bounds-rest-start
-slice_bounds-rest-start g c = used_within _ _ _ c.loop-rest.invariant.0 c.enrol_next-read.ensures.value
+slice_bounds-rest-start g c = used_within _ _ _ c.loop-rest.invariant.0 c.enrol_next-used.ensures.read
 
 pub loop-rest-smaller : goal.loop-rest-smaller
-loop-rest-smaller g c = left_smaller _ _ _ c.loop-rest.invariant.0 c.enrol_next-read.ensures.value (search rules)
+loop-rest-smaller g c = left_smaller _ _ _ c.loop-rest.invariant.0 c.enrol_next-used.ensures.read (search rules)
 
 pub loop-rest-preserved : goal.loop-rest-preserved
 loop-rest-preserved g c = (
   c.print_full.ensures.room,
-  left_leads _ _ _ c.loop-rest.invariant.0 c.enrol_next-read.ensures.value c.print_full.ensures.reader_kept ∙ c.loop-rest.invariant.1,
+  left_leads _ _ _ c.loop-rest.invariant.0 c.enrol_next-used.ensures.read c.print_full.ensures.reader_kept ∙ c.loop-rest.invariant.1,
 )

@@ -5,7 +5,7 @@ use Rattle.roll.specs.Words.{rows_a_group}
 use Rattle.leadcard.proofs.Survey.read_piece.Given as goal
 
 abbrev pub invariant-loop-rest : goal.invariant-loop-rest
-invariant-loop-rest g l = (l.self.count < rows_a_group) × (after l.self.reader l.rest ≡ after l.initial.self.reader l.fn.piece)
+invariant-loop-rest g l = (l.self.roll.count < rows_a_group) × (after l.self.reader l.rest ≡ after l.initial.self.reader l.fn.piece)
 
 abbrev pub decreases-loop-rest : goal.decreases-loop-rest
 decreases-loop-rest g l = length l.rest

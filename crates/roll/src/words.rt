@@ -1,0 +1,121 @@
+// The words of a row on a roll: what becomes of it, its AGE or its number, and seven figures.
+ghost use Rattle.std.specs.Prelude.{◌≡◌, ◌≤◌, length};
+ghost use Rattle.card.specs.Row.{read_kept};
+ghost use Rattle.cardsite.specs.Start.{start_of};
+ghost use Rattle.roll.specs.Kind.{kind_in};
+ghost use Rattle.roll.specs.Read.{start_read};
+ghost use Rattle.roll.specs.Words.{words_a_row, gap_word, word_of, value_in, card_words, start_words, card_in, start_in};
+
+use card::Card;
+use cardsite::RunningCard;
+use lines::RowText;
+
+pub const ROW_WORDS: usize = 9;
+
+// A gap: every limit is far below it.
+const GAP: u32 = u32::MAX;
+
+// What becomes of a row, in its first word.
+#[derive(Clone, Copy, Debug, PartialEq, Eq)]
+pub enum Kind {
+    Runs = 0,
+    Skipped = 1,
+    Refused = 2,
+}
+
+// A word that no row gave counts as a refused row's.
+impl From<u32> for Kind {
+    ghost from_gives = { λ word kind. kind ≡ kind_in word };
+
+    fn from(word: u32) -> Kind {
+        match word {
+            0 => Kind::Runs,
+            1 => Kind::Skipped,
+            _ => Kind::Refused,
+        }
+    }
+}
+
+// A figure as a word, or a gap.
+fn word_of(figure: Option<u64>) -> u32
+    requires { word_of figure ≤ gap_word }
+    ensures { result ≡ word_of figure }
+{
+    figure.unwrap_or(GAP as u64) as u32
+}
+
+// The figure that a word is, or none at a gap.
+fn value_in(word: u32) -> Option<u64>
+    ensures { result ≡ value_in word }
+{
+    if word == GAP { None } else { Some(word as u64) }
+}
+
+// The words of a card that runs.
+#[tactic(auto, using(crate::proofs::RowWords::running_fits), unfolding(crate::specs::Words::card_words))]
+fn card_words(running: &RunningCard) -> [u32; ROW_WORDS]
+    ensures { result ≡ card_words running.now.card }
+{
+    let card = &running.card;
+    [
+        Kind::Runs as u32,
+        card.months() as u32,
+        word_of(card.soil),
+        word_of(card.dust),
+        word_of(card.water),
+        word_of(card.air),
+        word_of(card.other),
+        word_of(card.abssoil),
+        word_of(card.absdust),
+    ]
+}
+
+// The words of a row, by what becomes of it.
+fn row_words(row: &RowText) -> [u32; ROW_WORDS]
+    ensures { result ≡ start_words (start_of (read_kept row.now)) }
+{
+    match cardsite::start_row(row) {
+        Ok(Some(running)) => card_words(&running),
+        Ok(None) => [Kind::Skipped as u32, 0, 0, 0, 0, 0, 0, 0, 0],
+        Err(refusal) => [Kind::Refused as u32, refusal.number(), 0, 0, 0, 0, 0, 0, 0],
+    }
+}
+
+// Puts a row's words into its place.
+pub fn put_row(place: &mut [u32], row: &RowText)
+    requires { length place.old ≡ words_a_row }
+    ensures { place.new ≡ start_words (start_of (read_kept row.now)) }
+{
+    place.copy_from_slice(&row_words(row));
+}
+
+// The card that a row's words are.
+#[tactic(auto, unfolding(crate::specs::Words::card_in))]
+fn card_in(words: &[u32]) -> Card
+    requires { length words.now ≡ words_a_row }
+    ensures { result ≡ card_in words.now }
+{
+    Card {
+        age: Some(words[1] as u64),
+        soil: value_in(words[2]),
+        dust: value_in(words[3]),
+        water: value_in(words[4]),
+        air: value_in(words[5]),
+        other: value_in(words[6]),
+        abssoil: value_in(words[7]),
+        absdust: value_in(words[8]),
+    }
+}
+
+// What becomes of a row, by its words.
+#[tactic(auto, unfolding(crate::specs::Words::start_in))]
+pub fn start_in(words: &[u32]) -> Result<Option<RunningCard>, u32>
+    requires { length words.now ≡ words_a_row }
+    ensures { start_read result ≡ start_in words.now }
+{
+    match Kind::from(words[0]) {
+        Kind::Runs => Ok(cardsite::start_card(&card_in(words))?),
+        Kind::Skipped => Ok(None),
+        Kind::Refused => Err(words[1]),
+    }
+}
