@@ -96,7 +96,7 @@ impl Roll {
     }
 
     // Puts the first rows of a text of rows, 64 at most, in place of those that were on it. Answers where the row after them starts, or the text's
-    // length.
+    // length. A step goes up to the end of a row: no index counts it.
     pub fn enrol_text(&mut self, text: &[u8]) -> usize
         ensures { TextEnrolled text.now self.new.words (record { count = self.new.count; next = result }) }
     {
