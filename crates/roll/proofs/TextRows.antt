@@ -7,7 +7,7 @@ use mathlib.Core.List.{List, [], ◌∷◌, ◌++◌, map, append-nil, append_as
 use native.Mathlib.Omega.{arith}
 use native.Mathlib.Decide.{dec_lt}
 use borrow.Author.Tests.{le-leb, lt-leb}
-use lib.ListN.{length, take, drop, length-replicate, length-append, length-map, length-drop, drop_of_length-le}
+use lib.ListN.{length, take, drop, length-append, length-map, length-drop, drop_of_length-le}
 use lib.Seq.{drop-drop, take_at, take_all, length-take-le}
 use Rattle.lines.specs.declared.RowText.{RowText}
 use Rattle.lines.specs.declared.Reader.{Reader}
@@ -22,8 +22,6 @@ use Rattle.lines.proofs.LineStarts.{LineWalked, line_walked, rows_left, left_wal
 use Rattle.card.specs.Row.{read_row, read_kept}
 use Rattle.card.proofs.Rows.{row_read}
 use Rattle.cardsite.specs.Start.{Start, start_of}
-use Rattle.roll.specs.declared.Roll.{Roll}
-use Rattle.roll.specs.Blank.{blank}
 use Rattle.roll.specs.Enrolled.{Enrolled}
 use Rattle.roll.specs.Words.{rows_a_group, roll_words, starts_in}
 use Rattle.roll.specs.Enrol.{with_row, enrolled, rolled, count_with_last, rolled_last, group_of}
@@ -60,9 +58,9 @@ pub record InText (text roll : List ℕ) (r : Reader) (n at : ℕ) : Type 0 wher
   pub next : line_start rows_a_group text ≡ at + line_start (rows_a_group - n) (drop at text)
   pub rows : starts_in n roll ++ starts_kept (rows_left r (drop at text)) ≡ starts_of (lines_of text)
 
-none_read : (text words : List ℕ) {r : Reader} → length words ≡ roll_words → r ≡ row_start → InText text words r 0 0
+pub text_start : (text roll : List ℕ) {r : Reader} → length roll ≡ roll_words → r ≡ row_start → InText text roll r 0 0
 unfolding starts_in
-none_read text words long e =
+text_start text roll long e =
     record {
       reach = omega arith;
       within = omega arith;
@@ -71,9 +69,6 @@ none_read text words long e =
       next = omega arith;
       rows = rw e (ap starts_kept (plain_rows text) ∙ starts_kept_lem (lines_of text));
     }
-
-pub text_start : (text : List ℕ) {roll : Roll} {r : Reader} → roll ≡ blank → r ≡ row_start → InText text roll.words r roll.count 0
-text_start text e start = rw e (none_read text blank.words (length-replicate {A = ℕ} roll_words 0) start)
 
 module _ {text roll : List ℕ} {r : Reader} {n at : ℕ} (inv : InText text roll r n at) where
   module _ (h : n < rows_a_group) (more : at < length text) where

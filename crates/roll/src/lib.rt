@@ -19,7 +19,8 @@ pub const GROUP_ROWS: usize = 64;
 
 pub const ROLL_WORDS: usize = GROUP_ROWS * ROW_WORDS;
 
-// The rows of a roll, nine words for each, since 64 cards as structs would take four times the memory. The words behind them are free.
+// The rows on a roll, nine words for each: the laws speak of the words, and 64 cards would take four times their memory. The words behind the rows
+// are free.
 #[derive(Drop, Clone, Debug, PartialEq, Eq)]
 pub struct Roll {
     pub words: [u32; ROLL_WORDS],
@@ -62,8 +63,7 @@ impl Roll {
         ensures words_after { self.new.words ≡ with_row self.old.count row.now self.old.words }
     {
         let start = ROW_WORDS * self.count;
-        let place = &mut self.words[start..start + ROW_WORDS];
-        words::put_row(place, row);
+        self.words[start..start + ROW_WORDS].copy_from_slice(&words::row_words(row));
         self.count += 1;
     }
 
@@ -96,11 +96,11 @@ impl Roll {
     }
 
     // Puts the first rows of a text of rows, 64 at most, in place of those that were on it. Answers where the row after them starts, or the text's
-    // length.
+    // length. A step goes up to the end of a row: no index counts it.
     pub fn enrol_text(&mut self, text: &[u8]) -> usize
         ensures { TextEnrolled text.now self.new.words (record { count = self.new.count; next = result }) }
     {
-        *self = Roll::new();
+        self.count = 0;
         let mut reader = Reader::before_row();
         let mut at = 0;
         while at < text.len() && self.count < GROUP_ROWS {

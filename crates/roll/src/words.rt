@@ -71,7 +71,7 @@ fn card_words(running: &RunningCard) -> [u32; ROW_WORDS]
 }
 
 // The words of a row, by what becomes of it.
-fn row_words(row: &RowText) -> [u32; ROW_WORDS]
+pub fn row_words(row: &RowText) -> [u32; ROW_WORDS]
     ensures { result ≡ start_words (start_of (read_kept row.now)) }
 {
     match cardsite::start_row(row) {
@@ -79,14 +79,6 @@ fn row_words(row: &RowText) -> [u32; ROW_WORDS]
         Ok(None) => [Kind::Skipped as u32, 0, 0, 0, 0, 0, 0, 0, 0],
         Err(refusal) => [Kind::Refused as u32, refusal.number(), 0, 0, 0, 0, 0, 0, 0],
     }
-}
-
-// Puts a row's words into its place.
-pub fn put_row(place: &mut [u32], row: &RowText)
-    requires { length place.old ≡ words_a_row }
-    ensures { place.new ≡ start_words (start_of (read_kept row.now)) }
-{
-    place.copy_from_slice(&row_words(row));
 }
 
 // The card that a row's words are.

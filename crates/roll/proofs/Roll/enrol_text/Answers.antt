@@ -1,11 +1,12 @@
 -- `roll::Roll::enrol_text` meets its contract: row after row, up to a full roll or the end of the text.
 use native.Mathlib.Omega.{arith}
+use borrow.Author.Rules.{rules}
 use Rattle.roll.proofs.TextRows.{text_start, text_next, text_onward, text_within, roll_full, text_end}
 use Rattle.roll.proofs.Roll.enrol_text.Goals as goal
 use Rattle.roll.proofs.Roll.enrol_text.Goals.{then-loop-at-test+else-self-lt-GROUP_ROWS, else-loop-at-test}
 
 pub loop-at-init : goal.loop-at-init
-loop-at-init c = text_start _ c.new.ensures c.before_row-reader.ensures
+loop-at-init c = text_start _ _ (search rules) c.before_row-reader.ensures
 
 pub overflow_add-at : goal.overflow_add-at
 overflow_add-at c =
