@@ -38,12 +38,12 @@ impl Course {
     }
 
     // A month more, unless the course is refused.
-    pub fn next_month(&self, files: &Accepted) -> Course
-        ensures { course_in result ≡ next_month steps_a_day files.now.scenario.now files.now.table.now (course_in self.now) }
+    pub fn next_month(self, files: &Accepted) -> Course
+        ensures { course_in result ≡ next_month steps_a_day files.now.scenario.now files.now.table.now (course_in self) }
     {
         match self.blood {
             Ok(_) => Course::after(&self.state, files.month(&self.state)),
-            Err(_) => *self,
+            Err(_) => self,
         }
     }
 

@@ -39,7 +39,7 @@ pub fn month(state: &State, files: &CallFiles) -> Result<MonthEnd, Refusal>
 {
     let mut table = [0; TABLE_NUMBERS];
     let mut decodes = 0;
-    let scenario = files.read(&mut table, &mut decodes)?;
+    let scenario = files.read(&mut table, &mut decodes)?; // before the refusals of the child
     let accepted = Accepted {
         scenario: &scenario,
         table: &table,
@@ -53,12 +53,13 @@ fn started_run(files: &CallFiles, blood: &mut [u32]) -> Result<Run, Refusal>
     ensures blood_after { blood.new ≡ run_list (run_of steps_a_day (files_in files.now) (length blood.old)) blood.old }
 {
     files.check_lengths()?;
-    if blood.len() != MONTHS {
+    let places = blood.len();
+    if places != MONTHS {
         return Err(Refusal::WrongListLength);
     }
     let mut table = [0; TABLE_NUMBERS];
     let mut decodes = 0;
-    let scenario = files.read(&mut table, &mut decodes)?;
+    let scenario = files.read(&mut table, &mut decodes)?; // after those of the lengths and of the list
     let accepted = Accepted {
         scenario: &scenario,
         table: &table,
