@@ -18,4 +18,4 @@ returns-in-Ok c = c.start_answer.ensures ∙ files_answered (read_same c.call_fi
 
 pub returns-in-Err : goal.returns-in-Err
 returns-in-Err c =
-    ap (λ n. Refused n) c.number.ensures ∙ files_refused (read_same c.call_files-call.ensures c.in-Err.ensures) steps_a_day c.args.kept (some_number _)
+    ap (λ n. Refused n) c.number.ensures ∙ files_refused (read_same c.call_files-call.ensures c.in-Err.ensures) steps_a_day c.args.kept.now (some_number _)
