@@ -8,7 +8,7 @@ use Rattle.numbers.specs.Choice.{unless}
 use Rattle.site.specs.declared.Scenario.{Scenario}
 use Rattle.kinetics.specs.declared.State.{State}
 use Rattle.kinetics.specs.Step.{burden, burden_limit}
-use Rattle.child.specs.declared.BirthAnswer.{BirthAnswer}
+use Rattle.child.specs.Answers.{BirthAnswer}
 use Rattle.state.specs.State.{zero_state}
 use Rattle.child.specs.Birth.{newborn, newborn_refusal, birth_answer}
 use Rattle.state.specs.Internal.{cap}

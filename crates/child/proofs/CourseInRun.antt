@@ -9,8 +9,7 @@ use Rattle.numbers.specs.Choice.{answer_by}
 use Rattle.site.specs.declared.Scenario.{Scenario}
 use Rattle.kinetics.specs.declared.State.{State}
 use Rattle.state.specs.State.{zero_state}
-use Rattle.child.specs.declared.MonthAnswer.{MonthAnswer}
-use Rattle.child.specs.declared.Course.{Course}
+use Rattle.child.specs.Answers.{MonthAnswer, Course}
 use Rattle.child.specs.Birth.{newborn, newborn_refusal, refused_birth}
 use Rattle.child.specs.Month.{child_month}
 use Rattle.child.specs.Months.{MonthsRun, no_month, month_then, and_then, months_by}

@@ -13,7 +13,7 @@ use Rattle.row.specs.Row.{row_of}
 use Rattle.kinetics.specs.declared.State.{State}
 use Rattle.blood.specs.Birth.{birth_state}
 use Rattle.state.specs.State.{zero_state}
-use Rattle.child.specs.declared.Course.{Course}
+use Rattle.child.specs.Answers.{Course}
 use Rattle.child.specs.Birth.{newborn, newborn_refusal, birth_answer}
 use Rattle.child.specs.Month.{month_after, exposure_in, saturation_month, child_refusal, child_month}
 use Rattle.child.specs.Course.{from_month, next_month, course_at}

@@ -9,9 +9,7 @@ use Rattle.numbers.proofs.Refusals.{answer_refused}
 use Rattle.site.specs.declared.Scenario.{Scenario}
 use Rattle.exposure.specs.declared.Exposure.{Exposure}
 use Rattle.row.specs.declared.Row.{Row}
-use Rattle.child.specs.declared.BirthAnswer.{BirthAnswer}
-use Rattle.child.specs.declared.MonthAnswer.{MonthAnswer}
-use Rattle.child.specs.declared.Course.{Course}
+use Rattle.child.specs.Answers.{BirthAnswer, MonthAnswer, Course}
 use Rattle.child.specs.Birth.{newborn, newborn_refusal, birth_answer}
 use Rattle.child.specs.Month.{child_month}
 use Rattle.child.specs.Course.{from_birth, from_month, next_month, course_at}

@@ -13,8 +13,7 @@ use Rattle.row.specs.Row.{last_month, row_of}
 use Rattle.row.specs.Limits.{RowLimits}
 use Rattle.intake.specs.Intake.{intake_refusal}
 use Rattle.kinetics.specs.declared.State.{State}
-use Rattle.child.specs.declared.BirthAnswer.{BirthAnswer}
-use Rattle.child.specs.declared.MonthAnswer.{MonthAnswer}
+use Rattle.child.specs.Answers.{BirthAnswer, MonthAnswer}
 use Rattle.std.specs.Prelude.{Ok, Err}
 use Rattle.refusal.specs.declared.Refusal.{Refusal}
 use Rattle.refusal.specs.Refusal.{number_of}
@@ -29,7 +28,8 @@ use Rattle.uptake.specs.Laws.{day_limit}
 use Rattle.uptake.proofs.UptakeBounds.{age_law}
 use Rattle.steps.specs.Internal.{Steppable, ReachedBy}
 use Rattle.steps.proofs.Loops.{refusal_some}
-use Rattle.child.specs.Internal.{Decoded, stepped_month, MonthLimits, MonthGiven, exposed_month, given_month, month_from}
+use Rattle.child.specs.Decoded.{Decoded}
+use Rattle.child.specs.Internal.{stepped_month, MonthLimits, MonthGiven, exposed_month, given_month, month_from}
 use Rattle.state.proofs.SoundState.{passed_sound, passed_before}
 
 -- what a month and a birth answer, by the number

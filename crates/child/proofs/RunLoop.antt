@@ -11,8 +11,7 @@ use Rattle.numbers.proofs.Refusals.{answer_refused}
 use Rattle.site.specs.declared.Scenario.{Scenario}
 use Rattle.row.specs.Row.{last_month}
 use Rattle.kinetics.specs.declared.State.{State}
-use Rattle.child.specs.declared.MonthAnswer.{MonthAnswer}
-use Rattle.child.specs.declared.RunAnswer.{RunAnswer}
+use Rattle.child.specs.Answers.{MonthAnswer, RunAnswer}
 use Rattle.child.specs.Month.{child_refusal, child_month}
 use Rattle.child.specs.Months.{MonthsRun, no_month, month_then, and_then, months_by, run_answer, run_list}
 use Rattle.child.proofs.MonthAnswers.{refused_answer, answer_refusal}
@@ -52,11 +51,13 @@ module _ {call : State → MonthAnswer} {a b : State} {l₀ l : List ℕ} {i : �
       let w : months_by call last_month a ≡ prefixed (take i l) (no_month r b) = inv.same ∙ ap (prefixed (take i l)) e in
       (rw (w, append-nil (take i l), written-length), rw (w, append-nil (take i l), written-length, ← inv.rest) (sym (take-append-drop i l)))
 
-  pub run_end : last_month ≤ i → Done (months_by call last_month a) l₀ (record { refusal = 0; months = i; state = b }) l
+  pub run_end : last_month ≤ i → Done (months_by call last_month a) l₀ (record { refusal = 0; months = last_month; state = b }) l
   unfolding months_by
   run_end g =
       let none_left : last_month - i ≡ 0 = omega arith in
-      ends 0 (rw none_left)
+      let all : i ≡ last_month = omega (arith, inv.reach) in
+      let done = ends 0 (rw none_left) in
+      (ap (λ (n : ℕ). record { refusal = 0; months = n; state = b }) (sym all) ∙ done.0, done.1)
 
   -- the month's answer m, as the code has it
   module _ (g : i < last_month) {m : MonthAnswer} (em : m ≡ call b) where

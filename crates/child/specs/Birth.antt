@@ -8,7 +8,7 @@ use Rattle.row.specs.Row.{row_of}
 use Rattle.kinetics.specs.declared.State.{State}
 use Rattle.blood.specs.Birth.{birth_state}
 use Rattle.kinetics.specs.Step.{burden}
-use Rattle.child.specs.declared.BirthAnswer.{BirthAnswer}
+use Rattle.child.specs.Answers.{BirthAnswer}
 use Rattle.state.specs.State.{burden_refusal, zero_state}
 
 -- the child that a scenario and a book's table give birth to

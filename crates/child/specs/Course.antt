@@ -3,9 +3,7 @@
 use Rattle.std.specs.Prelude.{ℕ, zero, suc, List}
 use Rattle.numbers.specs.Choice.{answer_by}
 use Rattle.site.specs.declared.Scenario.{Scenario}
-use Rattle.child.specs.declared.BirthAnswer.{BirthAnswer}
-use Rattle.child.specs.declared.MonthAnswer.{MonthAnswer}
-use Rattle.child.specs.declared.Course.{Course}
+use Rattle.child.specs.Answers.{BirthAnswer, MonthAnswer, Course}
 use Rattle.child.specs.Birth.{newborn, newborn_refusal, birth_answer}
 use Rattle.child.specs.Month.{child_month}
 

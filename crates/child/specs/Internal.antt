@@ -17,16 +17,10 @@ use Rattle.kinetics.specs.declared.State.{State}
 use Rattle.state.specs.State.{state_refusal}
 use Rattle.numbers.specs.Choice.{first_of, answer_by}
 use Rattle.row.specs.declared.Row.{Row}
-use Rattle.child.specs.declared.MonthAnswer.{MonthAnswer}
+use Rattle.child.specs.Answers.{MonthAnswer}
 use Rattle.steps.specs.Steps.{days_a_month, days_shares, last_from, steps_refusal}
 use Rattle.child.specs.Months.{MonthsRun, months_by}
 use Rattle.child.specs.Month.{month_after, exposure_in, saturation_month, refused_month, month_answer, child_refusals, month_last, child_month}
-
--- a scenario and a table that accepted files give
-pub record Decoded (scenario : Scenario) (table : List ℕ) : Type 0 where
-  pub exposure : (age : ℕ) → age ≤ last_age → ExposureLimits (exposure_at scenario age)
-  pub mother : mother_of scenario ≤ 100_000
-  pub row : (month : ℕ) → month ≤ last_month → RowLimits (row_of table month)
 
 -- a month's steps, given its rates, its row and T
 unfoldable pub stepped_month : ℕ → (State → Rates) → State → Row → ℕ → MonthAnswer

@@ -13,7 +13,7 @@ use Rattle.intake.specs.Intake.{intake_refusal}
 use Rattle.uptake.specs.Uptake.{day_uptake}
 use Rattle.kinetics.specs.declared.State.{State}
 use Rattle.blood.specs.Blood.{blood_of}
-use Rattle.child.specs.declared.MonthAnswer.{MonthAnswer}
+use Rattle.child.specs.Answers.{MonthAnswer}
 use Rattle.state.specs.State.{state_refusal}
 use Rattle.steps.specs.Steps.{days_a_month, days_shares, last_from, steps_refusal}
 

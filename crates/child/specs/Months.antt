@@ -3,8 +3,7 @@
 use Rattle.std.specs.Prelude.{ℕ, zero, suc, List, [], ◌∷◌, ◌++◌, length, drop}
 use Rattle.numbers.specs.Choice.{answer_by}
 use Rattle.kinetics.specs.declared.State.{State}
-use Rattle.child.specs.declared.MonthAnswer.{MonthAnswer}
-use Rattle.child.specs.declared.RunAnswer.{RunAnswer}
+use Rattle.child.specs.Answers.{MonthAnswer, RunAnswer}
 
 -- months that were run: the refusal that ended them, or 0; the blood figures of the months done; the last month end
 pub record MonthsRun : Type 0 where

@@ -1,80 +1,88 @@
 // A child's course up to a month.
-ghost use Rattle.std.specs.Prelude.{◌≡◌, List, ℕ, length};
+ghost use Rattle.std.specs.Prelude.{◌≡◌, List, ℕ};
 ghost use Rattle.site.specs.declared.Scenario.{Scenario};
-ghost use Rattle.book.specs.Book.{table_numbers};
 ghost use Rattle.steps.specs.Steps.{steps_a_day};
 ghost use Rattle.child.specs.Course.{from_month, next_month, course_at};
-ghost use Rattle.child.specs.Internal.{Decoded, MonthLimits, MonthGiven};
+ghost use Rattle.child.specs.Outcomes.{month_answer_in, course_in};
+ghost use Rattle.child.specs.Internal.{MonthGiven};
 
-use super::{Course, MonthAnswer};
-use exposure::Exposure;
-use row::Row;
-use site::Scenario;
+use crate::MonthEnd;
+use crate::booked::BookedMonth;
+use crate::given::Accepted;
+use exposure::limited::LimitedExposure;
+use kinetics::State;
+use refusal::Refusal;
 
-// The course at birth.
-pub fn at_birth(scenario: Scenario, table: &[u32]) -> Course
-    requires { (length table.now ≡ table_numbers) × (Decoded scenario table.now) }
-    ensures { result ≡ course_at steps_a_day scenario table.now 0 }
-{
-    let birth = super::born(scenario, table);
-    let refusal = birth.refusal;
-    let state = birth.state;
-    Course {
-        refusal,
-        state,
-        blood: 0,
+// A child's course up to a month: the child at its end and its blood figure, 0 at birth. The first refusal ends a course: it has the child as it was before.
+#[derive(Clone, Copy, Debug, PartialEq, Eq)]
+pub struct Course {
+    pub state: State,
+    pub blood: Result<u32, Refusal>, // thousandths of ug/dL
+}
+
+impl Course {
+    // What a month from a state answers, as a course.
+    fn after(state: &State, month: Result<MonthEnd, Refusal>) -> Course
+        ensures { course_in result ≡ from_month (month_answer_in state.now month) }
+    {
+        match month {
+            Ok(end) => Course {
+                state: end.state,
+                blood: Ok(end.blood),
+            },
+            Err(refusal) => Course {
+                state: *state,
+                blood: Err(refusal),
+            },
+        }
+    }
+
+    // A month more, unless the course is refused.
+    pub fn next_month(&self, files: &Accepted) -> Course
+        ensures { course_in result ≡ next_month steps_a_day files.now.scenario.now files.now.table.now (course_in self.now) }
+    {
+        match self.blood {
+            Ok(_) => Course::after(&self.state, files.month(&self.state)),
+            Err(_) => *self,
+        }
+    }
+
+    // A month more of a course whose month is given by its exposure and what the book has for it.
+    pub fn next_exposed(&self, exposure: &LimitedExposure, booked: &BookedMonth) -> Course
+        ensures { (scenario : Scenario) (table : List ℕ) → ((course_in self.now).refusal ≡ 0 → MonthGiven scenario table self.now.state exposure.now.exposure booked.now.row booked.now.weight24) → course_in result ≡ next_month steps_a_day scenario table (course_in self.now) }
+    {
+        match self.blood {
+            Ok(_) => Course::after(&self.state, booked.given_month(&self.state, exposure)),
+            Err(_) => *self,
+        }
     }
 }
 
-// What a month answers, as a course.
-fn from_month(answer: MonthAnswer) -> Course
-    ensures { result ≡ from_month answer }
-{
-    let refusal = answer.refusal;
-    let state = answer.state;
-    let blood = answer.blood;
-    Course {
-        refusal,
-        state,
-        blood,
+impl Accepted<'_> {
+    // The course at birth.
+    pub fn course_at_birth(&self) -> Course
+        ensures { course_in result ≡ course_at steps_a_day self.now.scenario.now self.now.table.now 0 }
+    {
+        match self.birth() {
+            Ok(state) => Course {
+                state,
+                blood: Ok(0),
+            },
+            Err(refusal) => Course {
+                state: state::zero_state(),
+                blood: Err(refusal),
+            },
+        }
     }
-}
 
-// A month more, unless the course is refused.
-pub fn next_month(course: Course, scenario: Scenario, table: &[u32]) -> Course
-    requires { (length table.now ≡ table_numbers) × (Decoded scenario table.now) }
-    ensures { result ≡ next_month steps_a_day scenario table.now course }
-{
-    if course.refusal != 0 {
-        return course;
+    // The course up to a month.
+    pub fn course(&self, until: u32) -> Course
+        ensures { course_in result ≡ course_at steps_a_day self.now.scenario.now self.now.table.now until }
+    {
+        let mut here = self.course_at_birth();
+        for done in 0..until {
+            here = here.next_month(self);
+        }
+        here
     }
-    let answer = super::child_month(course.state, scenario, table);
-    from_month(answer)
-}
-
-// A month more of a course whose month is given by its exposure, its row and the body weight that the saturation is given for.
-pub fn next_exposed(course: Course, exposure: Exposure, row: Row, weight24: u64) -> Course
-    requires { MonthLimits exposure row weight24 }
-    ensures { (scenario : Scenario) (table : List ℕ) → (course.refusal ≡ 0 → MonthGiven scenario table course.state exposure row weight24) → result ≡ next_month steps_a_day scenario table course }
-{
-    let refusal = course.refusal;
-    if refusal != 0 {
-        return course;
-    }
-    let answer = super::given_month(course.state, exposure, row, weight24);
-    from_month(answer)
-}
-
-// The course up to a month.
-pub fn to_month(scenario: Scenario, table: &[u32], until: u32) -> Course
-    requires { (length table.now ≡ table_numbers) × (Decoded scenario table.now) }
-    ensures { result ≡ course_at steps_a_day scenario table.now until }
-{
-    let mut here = at_birth(scenario, table);
-    let mut done: u32 = 0;
-    while done < until {
-        here = next_month(here, scenario, table);
-        done = done + 1;
-    }
-    here
 }

@@ -7,7 +7,7 @@ use native.Mathlib.Omega.{arith}
 use lib.ListN.{length, get_or, replicate}
 use Rattle.numbers.proofs.Refusals.{first_of_none}
 use Rattle.kinetics.specs.declared.State.{State}
-use Rattle.child.specs.declared.MonthAnswer.{MonthAnswer}
+use Rattle.child.specs.Answers.{MonthAnswer}
 use Rattle.child.specs.Months.{MonthsRun, no_month, month_then, months_by}
 use Rattle.files.specs.Files.{Files}
 use Rattle.row.specs.Row.{last_month}

@@ -25,7 +25,7 @@ use Rattle.child.specs.Birth.{newborn, newborn_refusal}
 use Rattle.engine.specs.Month.{month_refusals, month_refusal, month_of}
 use Rattle.child.specs.Month.{month_after, exposure_in, month_uptake, month_rates, month_shares, month_end, child_refusals, child_refusal, month_last}
 use Rattle.conservation.specs.Conservation.{Month, WholeMonth, daily_of, steps_of}
-use Rattle.child.specs.Internal.{Decoded}
+use Rattle.child.specs.Decoded.{Decoded}
 use Rattle.steps.proofs.Shares.{days_total, days_length, sum_of}
 use Rattle.engine.proofs.FilesDecoded.{files_decoded}
 use Rattle.state.proofs.SoundState.{Sound, passed_sound}

@@ -51,7 +51,7 @@ use Rattle.state.proofs.SoundState.{Sound, passed_sound, state_passes}
 use Rattle.steps.specs.Steps.{steps_a_day, days_a_month, steps_refusal}
 use Rattle.steps.proofs.Shares.{sum_of, days_total}
 use Rattle.steps.proofs.Loops.{step_conserves}
-use Rattle.child.specs.declared.BirthAnswer.{BirthAnswer}
+use Rattle.child.specs.Answers.{BirthAnswer}
 use Rattle.child.specs.Birth.{newborn, newborn_refusal, accepted_birth}
 use Rattle.child.specs.Month.{month_after, exposure_in, month_uptake, month_rates, month_shares, child_refusal}
 use Rattle.child.specs.Months.{months_by}

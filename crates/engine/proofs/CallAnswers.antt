@@ -13,12 +13,12 @@ use Rattle.book.specs.Book.{table_numbers}
 use Rattle.site.specs.declared.Scenario.{Scenario}
 use Rattle.kinetics.specs.declared.State.{State}
 use Rattle.state.specs.State.{zero_state}
-use Rattle.child.specs.declared.BirthAnswer.{BirthAnswer}
-use Rattle.child.specs.declared.RunAnswer.{RunAnswer}
+use Rattle.child.specs.Answers.{BirthAnswer, RunAnswer}
 use Rattle.child.specs.Birth.{newborn, newborn_refusal, birth_answer}
 use Rattle.child.specs.Month.{month_after, refused_month, month_answer, child_refusal, month_last, child_month}
 use Rattle.child.specs.Months.{MonthsRun, no_month, months_by, run_answer, run_list}
-use Rattle.child.specs.Internal.{Decoded, child_run}
+use Rattle.child.specs.Decoded.{Decoded}
+use Rattle.child.specs.Internal.{child_run}
 use Rattle.child.proofs.MonthAnswers.{refused_answer, refused_birth_lem, birth_answer_refusal}
 use Rattle.child.proofs.RunLoop.{Done, months_agree}
 use Rattle.files.specs.Files.{Files, length_refusal, before_book_refusal, files_refusal, scenario_in, table_in}

@@ -15,7 +15,7 @@ use Rattle.files.specs.Files.{Files, files_refusal, scenario_in, table_in}
 use Rattle.files.specs.FilesRead.{FilesRead}
 use Rattle.files.specs.Internal.{FilesAreRead}
 use Rattle.files.proofs.FilesPassed.{site_passed, book_passed}
-use Rattle.child.specs.Internal.{Decoded}
+use Rattle.child.specs.Decoded.{Decoded}
 
 pub files_decoded : (f : Files) → files_refusal f ≡ 0 → Decoded (scenario_in f) (table_in f)
 files_decoded f passed =

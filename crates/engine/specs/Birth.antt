@@ -2,7 +2,7 @@
 -- Assumes nothing.
 use Rattle.std.specs.Prelude.{ℕ, List, [], ◌∷◌}
 use Rattle.numbers.specs.Choice.{first_of}
-use Rattle.child.specs.declared.BirthAnswer.{BirthAnswer}
+use Rattle.child.specs.Answers.{BirthAnswer}
 use Rattle.child.specs.Birth.{newborn, newborn_refusal, birth_answer}
 use Rattle.files.specs.Files.{Files, files_refusal, scenario_in, table_in}
 

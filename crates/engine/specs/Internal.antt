@@ -2,8 +2,7 @@
 -- Assumes nothing.
 use Rattle.std.specs.Prelude.{◌≡◌, ℕ, List}
 use Rattle.state.specs.State.{zero_state}
-use Rattle.child.specs.declared.BirthAnswer.{BirthAnswer}
-use Rattle.child.specs.declared.RunAnswer.{RunAnswer}
+use Rattle.child.specs.Answers.{BirthAnswer, RunAnswer}
 use Rattle.child.specs.Birth.{newborn, birth_answer}
 use Rattle.files.specs.Files.{Files, scenario_in, table_in}
 use Rattle.engine.specs.declared.RunStart.{RunStart}

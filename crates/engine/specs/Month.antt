@@ -4,7 +4,7 @@ use Rattle.std.specs.Prelude.{ℕ, List, [], ◌∷◌}
 use Rattle.numbers.specs.Choice.{first_of}
 use Rattle.row.specs.Row.{row_of}
 use Rattle.kinetics.specs.declared.State.{State}
-use Rattle.child.specs.declared.MonthAnswer.{MonthAnswer}
+use Rattle.child.specs.Answers.{MonthAnswer}
 use Rattle.child.specs.Month.{month_after, month_answer, child_refusal, month_last}
 use Rattle.files.specs.Files.{Files, files_refusal, scenario_in, table_in}
 

@@ -14,7 +14,7 @@ use Rattle.files.specs.FilesRead.{FilesRead}
 use Rattle.files.specs.Files.{Files, files_decodes}
 use Rattle.files.specs.Internal.{FilesAreRead}
 use Rattle.engine.proofs.FilesDecoded.{files_passed, read_as_lem}
-use Rattle.child.specs.declared.Course.{Course}
+use Rattle.child.specs.Answers.{Course}
 use Rattle.child.specs.Course.{course_at}
 use Rattle.card.specs.Row.{read_row}
 use Rattle.card.specs.Values.{months_of}

@@ -15,10 +15,11 @@ use Rattle.row.specs.declared.Row.{Row}
 use Rattle.row.specs.Row.{last_month, row_of}
 use Rattle.uptake.specs.Age.{age_of}
 use Rattle.uptake.proofs.UptakeBounds.{age_law}
-use Rattle.child.specs.declared.Course.{Course}
+use Rattle.child.specs.Answers.{Course}
 use Rattle.child.specs.Month.{exposure_in, saturation_month}
 use Rattle.child.specs.Course.{next_month, course_at}
-use Rattle.child.specs.Internal.{Decoded, MonthLimits, MonthGiven}
+use Rattle.child.specs.Decoded.{Decoded}
+use Rattle.child.specs.Internal.{MonthLimits, MonthGiven}
 use Rattle.child.proofs.MonthAnswers.{limits-at}
 use Rattle.child.proofs.CourseMonths.{course_born_same, course_month_given}
 use Rattle.card.specs.declared.Card.{Card}

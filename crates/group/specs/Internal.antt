@@ -7,7 +7,7 @@ use Rattle.site.specs.Fields.{at}
 use Rattle.exposure.specs.declared.Exposure.{Exposure}
 use Rattle.row.specs.declared.Row.{Row}
 use Rattle.row.specs.Row.{last_month, row_of}
-use Rattle.child.specs.declared.Course.{Course}
+use Rattle.child.specs.Answers.{Course}
 use Rattle.child.specs.Month.{exposure_in, saturation_month}
 use Rattle.child.specs.Course.{course_at}
 use Rattle.child.specs.Internal.{MonthLimits}

@@ -6,7 +6,7 @@ use lib.ListN.{length}
 use Rattle.numbers.proofs.Refusals.{answer_both}
 use Rattle.row.specs.Row.{last_month}
 use Rattle.kinetics.specs.declared.State.{State}
-use Rattle.child.specs.declared.MonthAnswer.{MonthAnswer}
+use Rattle.child.specs.Answers.{MonthAnswer}
 use Rattle.files.specs.Files.{Files}
 use Rattle.engine.specs.Birth.{birth_of}
 use Rattle.engine.specs.Month.{month_of}

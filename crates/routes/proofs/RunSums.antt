@@ -11,7 +11,7 @@ use Rattle.uptake.specs.Age.{age_of}
 use Rattle.uptake.specs.Routes.{day_routes, routes_total}
 use Rattle.uptake.proofs.UptakeBounds.{age_law}
 use Rattle.uptake.proofs.RouteSums.{routes_law, route_sums_law}
-use Rattle.child.specs.declared.MonthAnswer.{MonthAnswer}
+use Rattle.child.specs.Answers.{MonthAnswer}
 use Rattle.child.specs.Month.{month_after, exposure_in, month_uptake, child_refusals, child_refusal}
 use Rattle.child.specs.Months.{MonthsRun, and_then, months_by}
 use Rattle.child.proofs.MonthAnswers.{answer_refusal}

@@ -12,9 +12,9 @@ use Rattle.files.specs.Files.{Files, files_refusal, scenario_in, table_in}
 use Rattle.files.specs.Internal.{FilesAreRead}
 use Rattle.files.proofs.FilesPassed.{site_passed, book_passed}
 use Rattle.engine.proofs.FilesDecoded.{files_passed, read_as_lem}
-use Rattle.child.specs.declared.Course.{Course}
+use Rattle.child.specs.Answers.{Course}
 use Rattle.child.specs.Course.{course_at}
-use Rattle.child.specs.Internal.{Decoded}
+use Rattle.child.specs.Decoded.{Decoded}
 use Rattle.lines.specs.declared.RowText.{RowText}
 use Rattle.card.specs.declared.Card.{Card}
 use Rattle.card.specs.Row.{read_kept}

@@ -8,7 +8,7 @@ use Rattle.numbers.proofs.Refusals.{answer_refused}
 use Rattle.row.specs.Row.{last_month}
 use Rattle.files.specs.Files.{Files, files_refusal, scenario_in, table_in}
 use Rattle.engine.proofs.RunCourse.{run_course}
-use Rattle.child.specs.declared.Course.{Course}
+use Rattle.child.specs.Answers.{Course}
 use Rattle.child.specs.Course.{course_at}
 use Rattle.child.specs.Months.{MonthsRun}
 use Rattle.child.specs.Laws.{AsInRun}

@@ -4,7 +4,7 @@ use Rattle.std.specs.Prelude.{ℕ, List}
 use Rattle.numbers.specs.Choice.{answer_by}
 use Rattle.site.specs.declared.Scenario.{Scenario}
 use Rattle.files.specs.Files.{Files, files_refusal, scenario_in, table_in}
-use Rattle.child.specs.declared.Course.{Course}
+use Rattle.child.specs.Answers.{Course}
 use Rattle.child.specs.Course.{course_at}
 use Rattle.lines.specs.declared.RowText.{RowText}
 use Rattle.card.specs.declared.Card.{Card}

@@ -3,7 +3,7 @@ use native.Mathlib.Omega.{arith}
 use lib.ListN.{length-set, length-replicate}
 use Rattle.numbers.proofs.Turns.{turn_next}
 use Rattle.steps.specs.Steps.{steps_a_day}
-use Rattle.child.specs.declared.Course.{Course}
+use Rattle.child.specs.Answers.{Course}
 use Rattle.roll.specs.Words.{rows_a_group}
 use Rattle.group.proofs.GroupCourses.{courses_born, courses_ended, ready_decoded, month_for, row_goes_on}
 use Rattle.group.proofs.courses_of.Goals as goal
