@@ -8,9 +8,11 @@ ghost use Rattle.engine.specs.Birth.{birth_of};
 ghost use Rattle.engine.specs.Month.{month_of};
 ghost use Rattle.child.specs.Months.{run_answer, run_list};
 ghost use Rattle.engine.specs.Run.{run_of};
-ghost use Rattle.files.specs.Files.{files_if};
+ghost use Rattle.files.specs.CallFiles.{files_in};
 ghost use Rattle.jurengate.specs.Words.{words_of, state_of};
 
+use child::MonthEnd;
+use files::CallFiles;
 use kinetics::State;
 
 // Words of a state.
@@ -50,56 +52,49 @@ fn state_of(words: &[u64; WORDS]) -> State
     }
 }
 
-// Birth, the month and the run into the memory that a caller lends, with a foods block or without.
-pub fn birth_into(
-    site: &[u8],
-    has_foods: bool,
-    foods: &[u8],
-    book: &[u8],
-    state: &mut [u64; WORDS],
-) -> u32
-    ensures value { result ≡ (birth_of (files_if has_foods site.now foods.now book.now)).refusal }
-    ensures state_after { state.new ≡ words_of (birth_of (files_if has_foods site.now foods.now book.now)).state }
+// Birth: the child at month 0, all zeros if it is refused. Each of these three is two calls in C, with a foods block and without, so they
+// answer the refusal's number, 0 for none.
+pub fn birth_into(files: &CallFiles, state: &mut [u64; WORDS]) -> u32
+    ensures value { result ≡ (birth_of (files_in files.now)).refusal }
+    ensures state_after { state.new ≡ words_of (birth_of (files_in files.now)).state }
 {
-    let answer = engine::birth(site, has_foods, foods, book);
-    *state = words_of(&answer.state);
-    answer.refusal
+    let born = engine::birth(files);
+    let child = born.unwrap_or(state::zero_state());
+    *state = words_of(&child);
+    refusal::number_in(&born)
 }
 
-pub fn month_into(
-    site: &[u8],
-    has_foods: bool,
-    foods: &[u8],
-    book: &[u8],
-    state: &mut [u64; WORDS],
-    blood: &mut u32,
-) -> u32
-    ensures value { result ≡ (month_of steps_a_day (state_of state.old) (files_if has_foods site.now foods.now book.now)).refusal }
-    ensures state_after { state.new ≡ words_of (month_of steps_a_day (state_of state.old) (files_if has_foods site.now foods.now book.now)).state }
-    ensures blood_after { blood.new ≡ (month_of steps_a_day (state_of state.old) (files_if has_foods site.now foods.now book.now)).blood }
+// One month: the child a month later and its blood figure; if it is refused, the child as it was and 0.
+pub fn month_into(files: &CallFiles, state: &mut [u64; WORDS], blood: &mut u32) -> u32
+    ensures value { result ≡ (month_of steps_a_day (state_of state.old) (files_in files.now)).refusal }
+    ensures state_after { state.new ≡ words_of (month_of steps_a_day (state_of state.old) (files_in files.now)).state }
+    ensures blood_after { blood.new ≡ (month_of steps_a_day (state_of state.old) (files_in files.now)).blood }
 {
-    let answer = engine::month(state_of(state), site, has_foods, foods, book);
-    *state = words_of(&answer.state);
-    *blood = answer.blood;
-    answer.refusal
+    let child = state_of(state);
+    let ended = engine::month(&child, files);
+    let end = ended.unwrap_or(MonthEnd {
+        state: child,
+        blood: 0,
+    });
+    *state = words_of(&end.state);
+    *blood = end.blood;
+    refusal::number_in(&ended)
 }
 
+// The run: birth and 84 months, the figure of each month done written into the list.
 pub fn run_into(
-    site: &[u8],
-    has_foods: bool,
-    foods: &[u8],
-    book: &[u8],
+    files: &CallFiles,
     blood: &mut [u32],
     state: &mut [u64; WORDS],
     months: &mut u32,
 ) -> u32
-    ensures value { result ≡ (run_of steps_a_day (files_if has_foods site.now foods.now book.now) (length blood.old)).refusal }
-    ensures blood_after { blood.new ≡ run_list (run_of steps_a_day (files_if has_foods site.now foods.now book.now) (length blood.old)) blood.old }
-    ensures state_after { state.new ≡ words_of (run_of steps_a_day (files_if has_foods site.now foods.now book.now) (length blood.old)).state }
-    ensures months_after { months.new ≡ (run_answer (run_of steps_a_day (files_if has_foods site.now foods.now book.now) (length blood.old))).months }
+    ensures value { result ≡ (run_of steps_a_day (files_in files.now) (length blood.old)).refusal }
+    ensures blood_after { blood.new ≡ run_list (run_of steps_a_day (files_in files.now) (length blood.old)) blood.old }
+    ensures state_after { state.new ≡ words_of (run_of steps_a_day (files_in files.now) (length blood.old)).state }
+    ensures months_after { months.new ≡ (run_answer (run_of steps_a_day (files_in files.now) (length blood.old))).months }
 {
-    let answer = engine::run(site, has_foods, foods, book, blood);
-    *state = words_of(&answer.state);
-    *months = answer.months;
-    answer.refusal
+    let run = engine::run(files, blood);
+    *state = words_of(&run.state);
+    *months = run.months;
+    refusal::number_in(&run.end)
 }

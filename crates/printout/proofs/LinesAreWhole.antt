@@ -13,7 +13,7 @@ use Rattle.row.specs.Row.{last_month}
 use Rattle.steps.specs.Steps.{steps_a_day}
 use Rattle.child.specs.Months.{MonthsRun}
 use Rattle.engine.specs.Run.{run_of}
-use Rattle.printout.specs.declared.Prepared.{Prepared}
+use Rattle.printout.specs.Kept.{Prepared}
 use Rattle.printout.specs.Printout.{month_line, month_lines, last_line, refused_line, printout_of}
 use Rattle.printout.specs.Lines.{kept_of, prepared_of, line_at, lines_from}
 use Rattle.printout.specs.Laws.{LinesLaw}
