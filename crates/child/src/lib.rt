@@ -108,11 +108,7 @@ impl BookedMonth {
     }
 
     // The month of a child with this exposure, whose state can have one.
-    fn exposed_month(
-        &self,
-        state: &State,
-        exposure: &LimitedExposure,
-    ) -> Result<MonthEnd, Refusal>
+    fn exposed_month(&self, state: &State, exposure: &LimitedExposure) -> Result<MonthEnd, Refusal>
         requires { state_refusal state.now ≡ 0 }
         ensures { month_answer_in state.now result ≡ exposed_month steps_a_day state.now exposure.now.exposure self.now.row self.now.weight24 }
     {

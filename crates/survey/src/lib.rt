@@ -1,11 +1,11 @@
 // A row of a batch card over a site file, a foods block or none, and a rate book, of any length and content: its answer.
 #![tactic(auto)]
 
-ghost use Rattle.std.specs.Prelude.{◌≡◌, length};
-ghost use Rattle.book.specs.Book.{table_numbers};
+ghost use Rattle.std.specs.Prelude.{◌≡◌};
 ghost use Rattle.card.specs.Row.{read_kept};
 ghost use Rattle.cardsite.specs.Laws.{Running};
 ghost use Rattle.cardsite.specs.Start.{start_of};
+ghost use Rattle.child.specs.Outcomes.{course_in};
 ghost use Rattle.files.specs.Files.{files_if};
 ghost use Rattle.steps.specs.Steps.{steps_a_day};
 ghost use Rattle.survey.specs.Survey.{course_answer, card_answer, start_answer, kept_answer, row_answer};
@@ -13,7 +13,8 @@ ghost use Rattle.survey.specs.Internal.{Ready};
 
 use book::TABLE_NUMBERS;
 use card::Card;
-use child::Course;
+use child::courses::Course;
+use child::given::Accepted;
 use lines::RowText;
 use site::Scenario;
 
@@ -28,32 +29,34 @@ pub enum RowAnswer {
 }
 
 // What a child's course up to AGE answers.
-pub fn course_answer(course: Course) -> RowAnswer
-    ensures { result ≡ course_answer course }
+pub fn course_answer(course: &Course) -> RowAnswer
+    ensures { result ≡ course_answer (course_in course.now) }
 {
-    let refusal = course.refusal;
-    if refusal != 0 {
-        return RowAnswer::Refused(refusal);
+    match course.blood {
+        Ok(blood) => RowAnswer::Blood(blood),
+        Err(refusal) => RowAnswer::Refused(refusal.number()),
     }
-    let blood = course.blood;
-    RowAnswer::Blood(blood)
 }
 
 // What a card answers that is neither refused nor skipped: birth, and the months up to its AGE.
-fn card_answer(card: &Card, scenario: Scenario, table: &[u32]) -> RowAnswer
-    requires { (length table.now ≡ table_numbers) × (Ready scenario table.now) × (Running card.now) }
-    ensures { result ≡ card_answer steps_a_day scenario table.now card.now }
+fn card_answer(card: &Card, scenario: &Scenario, table: &[u32; TABLE_NUMBERS]) -> RowAnswer
+    requires { (Ready scenario.now table.now) × (Running card.now) }
+    ensures { result ≡ card_answer steps_a_day scenario.now table.now card.now }
 {
-    let row = cardsite::row_scenario(card, &scenario);
+    let row = cardsite::row_scenario(card, scenario);
+    let accepted = Accepted {
+        scenario: &row,
+        table,
+    };
     let age = card.months();
-    let course = child::courses::to_month(row, table, age as u32);
-    course_answer(course)
+    let course = accepted.course(age as u32);
+    course_answer(&course)
 }
 
 // What a row answers that accepted files have.
-fn start_answer(kept: &RowText, scenario: Scenario, table: &[u32]) -> RowAnswer
-    requires { (length table.now ≡ table_numbers) × (Ready scenario table.now) }
-    ensures { result ≡ start_answer steps_a_day scenario table.now (start_of (read_kept kept.now)) }
+fn start_answer(kept: &RowText, scenario: &Scenario, table: &[u32; TABLE_NUMBERS]) -> RowAnswer
+    requires { Ready scenario.now table.now }
+    ensures { result ≡ start_answer steps_a_day scenario.now table.now (start_of (read_kept kept.now)) }
 {
     match cardsite::start_row(kept) {
         Ok(Some(card)) => card_answer(&card, scenario, table),
@@ -76,7 +79,7 @@ pub fn kept_answer(
     let mut decodes = 0;
     let call = files::call_files(site, has_foods, foods, book);
     match call.read(&mut table, &mut decodes) {
-        Ok(scenario) => start_answer(kept, scenario, &table),
+        Ok(scenario) => start_answer(kept, &scenario, &table),
         Err(refusal) => RowAnswer::Refused(refusal.number()),
     }
 }

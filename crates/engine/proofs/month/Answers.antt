@@ -1,24 +1,19 @@
 -- `engine::month` meets its contract: refused by its files, or a month of the child of accepted files.
-use Rattle.std.proofs.Common.{refl, ap, ◌∙◌}
+use mathlib.Core.Path.{refl, ◌∙◌}
+use Rattle.std.proofs.lemmas.Result.{err_from_is_err_and}
 use Rattle.block.proofs.RefusalNumbers.{some_number}
-use Rattle.child.specs.Month.{refused_month}
 use Rattle.steps.specs.Steps.{steps_a_day}
-use Rattle.files.proofs.ReadAnswers.{read_same}
-use Rattle.engine.proofs.FilesDecoded.{files_read_decoded, files_long}
+use Rattle.engine.proofs.FilesDecoded.{files_read_decoded}
 use Rattle.engine.proofs.CallAnswers.{month_files_refused, month_files_read}
 use Rattle.engine.proofs.month.Goals as goal
 
-pub child_month-requires : goal.child_month-requires
-child_month-requires c =
-    let read = read_same c.call_files-call.ensures c.in-Ok.ensures in
-    (files_long read refl, files_read_decoded read refl)
+pub returns-in_err-scenario : goal.returns-in_err-scenario
+returns-in_err-scenario c =
+    let p = err_from_is_err_and c.from_residual.result c.from_residual.ensures.1 in
+    rw (p.1, p.2) (month_files_refused c.in_err-scenario.ensures steps_a_day _ (some_number _))
 
-pub returns-in-Ok : goal.returns-in-Ok
-returns-in-Ok c =
-    let read = read_same c.call_files-call.ensures c.in-Ok.ensures in
-    c.child_month.ensures ∙ month_files_read read steps_a_day c.args.state refl
+pub invariant_of-accepted : goal.invariant_of-accepted
+invariant_of-accepted c = record { decoded = files_read_decoded c.in_ok-scenario.ensures refl }
 
-pub returns-in-Err : goal.returns-in-Err
-returns-in-Err c =
-    let read = read_same c.call_files-call.ensures c.in-Err.ensures in
-    c.refused_month.ensures ∙ ap (λ n. refused_month n c.args.state) c.number.ensures ∙ month_files_refused read steps_a_day c.args.state (some_number _)
+pub returns : goal.returns
+returns c = c.month.ensures ∙ month_files_read c.in_ok-scenario.ensures steps_a_day _ refl

@@ -1,0 +1,46 @@
+-- `engine::started_run` meets its contract: refused by a length, its list, its files or birth, or the months.
+use mathlib.Core.Path.{refl, sym, ◌∙◌}
+use Rattle.std.proofs.lemmas.Result.{err_from_is_err_and}
+use Rattle.refusal.specs.declared.Refusal.TheVariants.{WrongListLength}
+use Rattle.steps.specs.Steps.{steps_a_day}
+use Rattle.files.specs.CallFiles.{files_in}
+use Rattle.engine.proofs.FilesDecoded.{files_read_decoded}
+use Rattle.engine.proofs.CallAnswers.{birth_files_read, run_refused, lengths_refuse, list_refuses, start_by_birth, files_refuse, birth_number, run_months}
+use Rattle.engine.proofs.started_run.Goals as goal
+
+pub returns-in_err-check_lengths : goal.returns-in_err-check_lengths
+returns-in_err-check_lengths c =
+    let p = err_from_is_err_and c.from_residual.result c.from_residual.ensures.1 in
+    let whole = run_refused steps_a_day (files_in c.args.files.now) c.args.blood.now _ (lengths_refuse _ _ _ c.in_err-check_lengths.ensures) in
+    record { value = rw (p.1, p.2) whole.0; blood_after = whole.1 }
+
+pub returns-then-blood-ne-MONTHS : goal.returns-then-blood-ne-MONTHS
+returns-then-blood-ne-MONTHS c =
+    let whole = run_refused steps_a_day (files_in c.args.files.now) c.args.blood.now WrongListLength (list_refuses _ _ c.in_ok-check_lengths.ensures c.if-blood-ne-MONTHS.true) in
+    record { value = whole.0; blood_after = whole.1 }
+
+pub returns-in_err-scenario : goal.returns-in_err-scenario
+returns-in_err-scenario c =
+    let p = err_from_is_err_and c.from_residual-in_err-scenario.result c.from_residual-in_err-scenario.ensures.1 in
+    let number = files_refuse _ _ c.in_ok-check_lengths.ensures c.if-blood-ne-MONTHS.false _ c.in_err-scenario.ensures.refusal in
+    let whole = run_refused steps_a_day (files_in c.args.files.now) c.args.blood.now _ number in
+    record { value = rw (p.1, p.2) whole.0; blood_after = whole.1 }
+
+pub invariant_of-accepted : goal.invariant_of-accepted
+invariant_of-accepted c = record { decoded = files_read_decoded c.in_ok-scenario.ensures refl }
+
+pub returns-in_err-child : goal.returns-in_err-child
+returns-in_err-child c =
+    let p = err_from_is_err_and c.from_residual-in_err-child.result c.from_residual-in_err-child.ensures.1 in
+    let number =
+    birth_number _ (c.in_err-child.ensures ∙ birth_files_read c.in_ok-scenario.ensures refl) ∙ sym (start_by_birth _ _ c.in_ok-check_lengths.ensures c.if-blood-ne-MONTHS.false)
+    in
+    let whole = run_refused steps_a_day (files_in c.args.files.now) c.args.blood.now _ number in
+    record { value = rw (p.1, p.2) whole.0; blood_after = whole.1 }
+
+pub returns : goal.returns
+returns c =
+    let born = c.in_ok-child.ensures ∙ birth_files_read c.in_ok-scenario.ensures refl in
+    let starts = birth_number _ born ∙ sym (start_by_birth _ _ c.in_ok-check_lengths.ensures c.if-blood-ne-MONTHS.false) in
+    let whole = run_months c.in_ok-scenario.ensures refl steps_a_day c.args.blood.now starts born (c.months.ensures.value, c.months.ensures.blood_after) in
+    record { value = whole.0; blood_after = whole.1 }
