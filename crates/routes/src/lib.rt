@@ -31,6 +31,7 @@ impl RouteSums {
 }
 
 // The sums of an exposure's day, by the body weights of the month and of the saturation's; zeros if 9 refuses its intakes.
+#[tactic(auto, using(crate::proofs::MonthSums::exposed_some, crate::proofs::MonthSums::exposed_none, intake::proofs::Refused::number_some))]
 fn exposed_sums(limited: &LimitedExposure, weights: BodyWeights) -> RouteSums
     ensures { result ≡ exposed_sums limited.now.exposure weights.month weights.month24 }
 {
@@ -61,6 +62,7 @@ fn sums_in(accepted: &Accepted, month: u64) -> RouteSums
 }
 
 // The sums of each month's day; zeros in a month whose intakes 9 refuses, and in every month of refused files.
+#[tactic(auto, using(crate::proofs::MonthSums::stored_none, crate::proofs::MonthSums::stored_next, crate::proofs::MonthSums::stored_all, crate::proofs::MonthSums::refused_monthly, engine::proofs::FilesDecoded::files_passed))]
 pub fn monthly_sums(files: &CallFiles) -> [RouteSums; MONTHS]
     ensures { by_route result ≡ monthly_sums (files_in files.now) }
 {
