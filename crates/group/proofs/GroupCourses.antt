@@ -1,8 +1,8 @@
 -- The courses of a group's rows, month by month: a row's course goes on up to its AGE, where it rests.
 -- Assumes nothing.
-use Prim.Native.Nat.{ℕ, suc, ◌+◌, ◌≤◌, ◌<◌, min, max}
+use Prim.Native.Nat.{ℕ, zero, suc, ◌+◌, ◌≤◌, ◌<◌, min, max}
 use mathlib.Core.Path.{◌≡◌, refl, sym, ap, ◌∙◌}
-use mathlib.Core.List.{List}
+use mathlib.Core.List.{List, map, ◌∷◌}
 use native.Mathlib.Omega.{arith}
 use native.Mathlib.Decide.{ℕ_discrete}
 use lib.ListN.{length, replicate, get_or-replicate, length-replicate}
@@ -83,6 +83,11 @@ module _ (s : ℕ) (scenario : Scenario) (table : List ℕ) (done : ℕ) {x : St
   pub refused_rests : {n : ℕ} → x ≡ start.Refused n → course ≡ course_by s scenario table x (done + 1)
   unfolding course_by
   refused_rests e = here ∙ rw e
+
+-- n times what f gives of x
+pub map_replicate : {A B : Type 0} (f : A → B) (n : ℕ) (x : A) → map f (replicate n x) ≡ replicate n (f x)
+map_replicate f zero x = refl
+map_replicate f (suc n) x = ap (f x ∷◌) (map_replicate f n x)
 
 -- THE LOOP over the months: row i after m of them
 abbrev pub courses_at : ℕ → Scenario → List ℕ → List ℕ → ℕ → ℕ → Course

@@ -5,11 +5,12 @@ ghost use Rattle.cardsite.specs.Start.{Start};
 ghost use Rattle.survey.specs.declared.RowAnswer.TheVariants.{Refused};
 ghost use Rattle.roll.specs.Read.{start_read};
 ghost use Rattle.roll.specs.Words.{rows_a_group, roll_words, starts_in};
+ghost use Rattle.child.specs.Outcomes.{course_in};
 ghost use Rattle.group.specs.Group.{words_an_answer, answers_long, answer_words, answered};
 ghost use Rattle.group.specs.Internal.{end_answer, end_answers, answer_in, answer_at};
 
 use card::Card;
-use child::Course;
+use child::courses::Course;
 use roll::GROUP_ROWS;
 use survey::RowAnswer;
 
@@ -56,8 +57,8 @@ fn put_answer(answers: &mut [u32], i: usize, answer: RowAnswer)
 }
 
 // What a row answers whose course is at its end.
-fn answer_of(start: &Result<Option<Card>, u32>, course: Course) -> RowAnswer
-    ensures { result ≡ end_answer (start_read start.now) course }
+fn answer_of(start: &Result<Option<Card>, u32>, course: &Course) -> RowAnswer
+    ensures { result ≡ end_answer (start_read start.now) (course_in course.now) }
 {
     match start {
         Ok(Some(_)) => survey::course_answer(course),
@@ -82,13 +83,13 @@ pub fn put_refused(refusal: u32, count: usize, answers: &mut [u32])
 // Every row answers by what becomes of it and its course.
 pub fn put_courses(roll: &[u32], courses: [Course; GROUP_ROWS], count: usize, answers: &mut [u32])
     requires { (length roll.now ≡ roll_words) × (length answers.old ≡ answers_long) × (count ≤ rows_a_group) }
-    ensures { answers.new ≡ answered (end_answers roll.now courses count) answers.old }
+    ensures { answers.new ≡ answered (end_answers roll.now (map course_in courses) count) answers.old }
 {
     let mut i: usize = 0;
     while i < count {
         let start = roll::start_at(roll, i);
         let course = courses[i];
-        let answer = answer_of(&start, course);
+        let answer = answer_of(&start, &course);
         put_answer(answers, i, answer);
         i = i + 1;
     }

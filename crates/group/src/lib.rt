@@ -1,9 +1,8 @@
 // A group of up to 64 rows of a card, run together over one reading of their files: all to a month before any goes on to the next.
 #![tactic(auto)]
 
-ghost use Rattle.std.specs.Prelude.{◌≡◌, List, ℕ, ◌+◌, ◌≤◌, min, max, length};
+ghost use Rattle.std.specs.Prelude.{◌≡◌, List, ℕ, ◌+◌, ◌≤◌, min, max, length, map};
 ghost use Rattle.site.specs.declared.Scenario.{Scenario};
-ghost use Rattle.book.specs.Book.{table_numbers};
 ghost use Rattle.files.specs.Files.{files_if, files_decodes};
 ghost use Rattle.steps.specs.Steps.{steps_a_day};
 ghost use Rattle.card.specs.declared.Card.{Card};
@@ -11,6 +10,7 @@ ghost use Rattle.cardsite.specs.Start.{Runs};
 ghost use Rattle.cardsite.specs.Laws.{Running};
 ghost use Rattle.cardsite.specs.RowExposure.{row_exposure};
 ghost use Rattle.child.specs.Internal.{MonthLimits};
+ghost use Rattle.child.specs.Outcomes.{course_in};
 ghost use Rattle.survey.specs.Internal.{Ready};
 ghost use Rattle.roll.specs.Words.{rows_a_group, roll_words};
 ghost use Rattle.roll.specs.Read.{start_read};
@@ -19,10 +19,11 @@ ghost use Rattle.group.specs.Internal.{until_of, course_by, GroupMonth, MonthFor
 
 use book::TABLE_NUMBERS;
 use card::Card;
-use child::Course;
-use exposure::Exposure;
+use child::booked::BookedMonth;
+use child::courses::Course;
+use child::given::Accepted;
+use exposure::limited::LimitedExposure;
 use roll::{GROUP_ROWS, ROLL_WORDS};
-use row::Row;
 use site::Scenario;
 
 pub mod answers; // answers.rt: the answers in words
@@ -71,63 +72,65 @@ fn last_month(roll: &[u32], count: usize) -> u64
 // A month more of a card's course after the months done: past its AGE it rests, and so it does if it is refused.
 fn card_month(
     card: &Card,
-    course: Course,
+    course: &Course,
     done: u64,
-    exposure: Exposure,
-    row: Row,
-    weight24: u64,
+    exposure: &LimitedExposure,
+    booked: &BookedMonth,
 ) -> Course
-    requires { MonthLimits (row_exposure card.now exposure) row weight24 }
-    ensures { (scenario : Scenario) (table : List ℕ) → GroupMonth scenario table done exposure row weight24 → Running card.now → course ≡ course_by steps_a_day scenario table (Runs card.now) done → result ≡ course_by steps_a_day scenario table (Runs card.now) (done + 1) }
+    requires { MonthLimits (row_exposure card.now exposure.now.exposure) booked.now.row booked.now.weight24 }
+    ensures { (scenario : Scenario) (table : List ℕ) → GroupMonth scenario table done exposure.now.exposure booked.now.row booked.now.weight24 → Running card.now → course_in course.now ≡ course_by steps_a_day scenario table (Runs card.now) done → course_in result ≡ course_by steps_a_day scenario table (Runs card.now) (done + 1) }
 {
     let age = card.months();
     if age <= done {
-        return course;
+        return *course;
     }
-    let own = cardsite::exposures::row_exposure(card, exposure);
-    child::courses::next_exposed(course, own, row, weight24)
+    let exposure = cardsite::exposures::row_exposure(card, exposure.exposure);
+    let own = LimitedExposure { exposure };
+    course.next_exposed(&own, booked)
 }
 
 // A month more of a row's course: a skipped or refused row rests.
 #[tactic(auto, unfolding(crate::specs::Internal::course_by))]
 fn row_month(
     start: &Result<Option<Card>, u32>,
-    course: Course,
+    course: &Course,
     done: u64,
-    exposure: Exposure,
-    row: Row,
-    weight24: u64,
+    exposure: &LimitedExposure,
+    booked: &BookedMonth,
 ) -> Course
-    requires { MonthFor (start_read start.now) exposure row weight24 }
-    ensures { (scenario : Scenario) (table : List ℕ) → GroupMonth scenario table done exposure row weight24 → ((c : Card) → start_read start.now ≡ Runs c → Running c) → course ≡ course_by steps_a_day scenario table (start_read start.now) done → result ≡ course_by steps_a_day scenario table (start_read start.now) (done + 1) }
+    requires { MonthFor (start_read start.now) exposure.now.exposure booked.now.row booked.now.weight24 }
+    ensures { (scenario : Scenario) (table : List ℕ) → GroupMonth scenario table done exposure.now.exposure booked.now.row booked.now.weight24 → ((c : Card) → start_read start.now ≡ Runs c → Running c) → course_in course.now ≡ course_by steps_a_day scenario table (start_read start.now) done → course_in result ≡ course_by steps_a_day scenario table (start_read start.now) (done + 1) }
 {
     match start {
-        Ok(Some(card)) => card_month(card, course, done, exposure, row, weight24),
-        Ok(None) | Err(_) => course,
+        Ok(Some(card)) => card_month(card, course, done, exposure, booked),
+        Ok(None) | Err(_) => *course,
     }
 }
 
 // The courses of the rows of a roll, month by month: all to a month, whose exposure and row they share, before any goes on to the next.
-fn courses_of(scenario: Scenario, table: &[u32], roll: &[u32], count: usize) -> [Course; GROUP_ROWS]
-    requires { (length table.now ≡ table_numbers) × (Ready scenario table.now) × (length roll.now ≡ roll_words) × (count ≤ rows_a_group) }
-    ensures { CoursesRun steps_a_day scenario table.now roll.now count result }
+fn courses_of<'a>(
+    scenario: &'a Scenario,
+    table: &'a [u32; TABLE_NUMBERS],
+    roll: &[u32],
+    count: usize,
+) -> [Course; GROUP_ROWS]
+    requires { (Ready scenario.now table.now) × (length roll.now ≡ roll_words) × (count ≤ rows_a_group) }
+    ensures { CoursesRun steps_a_day scenario.now table.now roll.now count (map course_in result) }
 {
-    let birth = child::courses::at_birth(scenario, table);
+    let accepted = Accepted { scenario, table };
+    let birth = accepted.course_at_birth();
     let mut courses = [birth; GROUP_ROWS];
     let last = last_month(roll, count);
-    let row24 = row::table::row_at(table, child::SATURATION_MONTH);
-    let weight24 = row24.body_weight;
     let mut done: u64 = 0;
     while done < last {
         let month = done + 1;
-        let age = uptake::age::age_of(month);
-        let exposure = exposure::exposure_at(&scenario, age as usize);
-        let row = row::table::row_at(table, month as usize);
+        let exposure = accepted.exposure(month);
+        let booked = accepted.booked(month);
         let mut i: usize = 0;
         while i < count {
             let start = roll::start_at(roll, i);
             let course = courses[i];
-            let next = row_month(&start, course, done, exposure, row, weight24);
+            let next = row_month(&start, &course, done, &exposure, &booked);
             courses[i] = next;
             i = i + 1;
         }
@@ -167,7 +170,7 @@ pub fn answer_roll(
     let call = files::call_files(site, has_foods, foods, book);
     match call.read(&mut table, &mut decodes) {
         Ok(scenario) => {
-            let courses = courses_of(scenario, &table, roll, rows);
+            let courses = courses_of(&scenario, &table, roll, rows);
             answers::put_courses(roll, courses, rows, answers);
         }
         Err(refusal) => answers::put_refused(refusal.number(), rows, answers),

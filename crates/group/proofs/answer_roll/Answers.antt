@@ -5,7 +5,6 @@ use borrow.Author.Rules.{rules}
 use Rattle.block.proofs.RefusalNumbers.{some_number}
 use Rattle.steps.specs.Steps.{steps_a_day}
 use Rattle.files.proofs.ReadAnswers.{read_same}
-use Rattle.engine.proofs.FilesDecoded.{files_long}
 use Rattle.survey.proofs.RowAnswers.{files_read_ready}
 use Rattle.group.specs.Group.{answered}
 use Rattle.group.proofs.GroupAnswers.{roll_refused, roll_answered}
@@ -14,7 +13,7 @@ use Rattle.group.proofs.answer_roll.Goals as goal
 pub courses_of-courses-requires : goal.courses_of-courses-requires
 courses_of-courses-requires c =
     let read = read_same c.call_files-call.ensures c.in-Ok.ensures in
-    (files_long read refl, files_read_ready read refl, search rules, omega (arith, c.rows_of-rows.ensures))
+    (files_read_ready read refl, search rules, omega (arith, c.rows_of-rows.ensures))
 
 pub returns-in-Ok-clause-answers_after : goal.returns-in-Ok-clause-answers_after
 returns-in-Ok-clause-answers_after c =

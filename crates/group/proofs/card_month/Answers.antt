@@ -14,4 +14,4 @@ returns c =
     λ scenario table shared run here.
     let a = c.args in
     let on : a.done < months_of a.card.now.age = omega (arith, c.months-age.ensures, c.if-age-done.false) in
-    card_goes_on shared _ run steps_a_day here on (c.next_exposed.ensures _ _ (card_month_given shared _ run steps_a_day here on c.row_exposure-own.ensures))
+    card_goes_on shared _ run steps_a_day here on (c.next_exposed.ensures _ _ (card_month_given shared _ run steps_a_day here on c.row_exposure-exposure.ensures))
