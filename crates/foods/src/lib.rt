@@ -1,7 +1,7 @@
 // The foods block: the grams of fifteen foods at each age, their lead, and what local foods replace, read or refused.
 #![tactic(auto)]
 
-ghost use Rattle.std.specs.Prelude.{◌≡◌, IfOk};
+ghost use Rattle.std.specs.Prelude.{◌≡◌, IfOk, OnOk};
 ghost use Rattle.refusal.specs.Refusal.{number_in};
 ghost use Rattle.foods.specs.Foods.{foods_refusal, foods_figures};
 
@@ -27,25 +27,46 @@ const FOODS_FORM: Form = Form {
     used: LEADS_AT + 4 * WIDE_FIGURES,
 };
 
-// Reads a foods block into its 128 figures.
-pub fn read_foods(block: &[u8]) -> Result<FoodsFigures, Refusal>
+// Decodes a foods block into lent figures.
+fn decode(block: &[u8], figures: &mut [u32; FIGURES]) -> Result<(), Refusal>
     ensures number { number_in result ≡ foods_refusal block.now }
-    ensures figures { IfOk result (λ f. f.figures ≡ foods_figures block.now) }
+    ensures figures_after { OnOk result (figures.new ≡ foods_figures block.now) }
 {
     if block.len() != FOODS_BYTES {
         return Err(Refusal::WrongLength);
     }
     block::read::check_block(block, FOODS_FORM)?;
-    let mut figures = [0u32; FIGURES];
     block::read::read_numbers::<Words>(block, FIELDS_AT, &mut figures[..AMOUNTS]);
     block::read::read_numbers::<Fields>(block, LEADS_AT, &mut figures[AMOUNTS..FIGURES]);
-    let shares = limits::shares_fit(&figures);
-    let amounts = limits::amounts_fit(&figures);
+    let shares = limits::shares_fit(figures);
+    let amounts = limits::amounts_fit(figures);
     if !shares {
         return Err(Refusal::SharesOver);
     }
     if !amounts {
         return Err(Refusal::AmountOver);
     }
+    Ok(())
+}
+
+// Reads a foods block into lent memory: its 128 figures, zeros if it is refused.
+pub fn read_figures(block: &[u8], figures: &mut [u32; FIGURES]) -> Result<(), Refusal>
+    ensures number { number_in result ≡ foods_refusal block.now }
+    ensures figures_after { figures.new ≡ foods_figures block.now }
+{
+    if let Err(refusal) = decode(block, figures) {
+        figures.fill(0);
+        return Err(refusal);
+    }
+    Ok(())
+}
+
+// Reads a foods block into its 128 figures.
+pub fn read_foods(block: &[u8]) -> Result<FoodsFigures, Refusal>
+    ensures number { number_in result ≡ foods_refusal block.now }
+    ensures figures { IfOk result (λ f. f.figures ≡ foods_figures block.now) }
+{
+    let mut figures = [0u32; FIGURES];
+    decode(block, &mut figures)?;
     Ok(FoodsFigures { figures })
 }

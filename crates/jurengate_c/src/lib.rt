@@ -67,11 +67,7 @@ pub extern "C" fn jurengate_read_foods(foods: &[u8], figures: &mut [u32; FIGURES
     ensures value { result ≡ foods_refusal foods.now }
     ensures figures_after { figures.new ≡ foods_figures foods.now }
 {
-    let foods_read = foods::read_foods(foods);
-    *figures = match foods_read {
-        Ok(accepted) => accepted.figures,
-        Err(_) => [0; FIGURES],
-    };
+    let foods_read = foods::read_figures(foods, figures);
     refusal::number_in(&foods_read)
 }
 

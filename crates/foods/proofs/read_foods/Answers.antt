@@ -1,55 +1,7 @@
--- `foods::read_foods` meets its contract: each way out is one case of `foods_refusal`.
-use Rattle.std.proofs.Common.{◌≡◌, refl, sym, ◌∙◌, replicate, true}
-use Rattle.std.proofs.lemmas.Result.{err_from_is_err_and}
-use Rattle.numbers.specs.Choice.{unless}
-use Rattle.block.proofs.RefusalNumbers.{some_number}
-use Rattle.foods.specs.Names.{figure_count}
-use Rattle.foods.specs.Foods.{figures_of, foods_refusal}
-use Rattle.foods.proofs.ReadAnswers.{stored, stored_figures, length_refused, header_refused, refusal_by_tests, accepted_block}
-use Rattle.foods.proofs.FigureTests.{fit_limits}
+-- `foods::read_foods` meets its contract: the figures of an accepted block are within their limits.
+use Rattle.std.proofs.Common.{refl}
+use Rattle.foods.proofs.FiguresWithin.{read_within}
 use Rattle.foods.proofs.read_foods.Goals as goal
-use Rattle.foods.proofs.read_foods.Goals.{After-shares_fit-shares, After-amounts_fit-amounts}
-
--- the figures stored are those that the block holds
-read : (c : After-shares_fit-shares) → stored c.read_numbers.new.target c.read_numbers-2.new.target (replicate figure_count 0) ≡ figures_of c.args.block.now
-read c = stored_figures c.args.block.now (replicate figure_count 0) refl _ c.read_numbers.ensures _ c.read_numbers-2.ensures
-
-accepted : (c : After-amounts_fit-amounts) → c.shares_fit-shares.result ≡ true → c.amounts_fit-amounts.result ≡ true → 0 ≡ foods_refusal c.args.block.now
-unfolding unless
-accepted c shares amounts =
-    let by = refusal_by_tests c.args.block.now c.if-block-ne-FOODS_BYTES.false c.in_ok-check_block.ensures
-    (read (goal.at.After-amounts_fit-amounts c).After-shares_fit-shares) c.shares_fit-shares.ensures c.amounts_fit-amounts.ensures in
-    rw (shares, amounts) at by
-
-pub returns-then-block-ne-FOODS_BYTES-clause-number : goal.returns-then-block-ne-FOODS_BYTES-clause-number
-returns-then-block-ne-FOODS_BYTES-clause-number c = length_refused c.args.block.now c.if-block-ne-FOODS_BYTES.true
-
-pub returns-in_err-check_block-clause-number : goal.returns-in_err-check_block-clause-number
-returns-in_err-check_block-clause-number c =
-    let p = err_from_is_err_and c.from_residual.result c.from_residual.ensures.1 in
-    rw (p.1, p.2) (header_refused c.args.block.now c.if-block-ne-FOODS_BYTES.false _ c.in_err-check_block.ensures (some_number _))
-
-pub returns-then-not-shares-clause-number : goal.returns-then-not-shares-clause-number
-unfolding unless
-returns-then-not-shares-clause-number c =
-    let by = refusal_by_tests c.args.block.now c.if-block-ne-FOODS_BYTES.false c.in_ok-check_block.ensures
-    (read (goal.at.returns-then-not-shares-clause-number c).After-shares_fit-shares) c.shares_fit-shares.ensures c.amounts_fit-amounts.ensures in
-    rw c.if-not-shares.true at by
-
-pub returns-then-not-amounts-clause-number : goal.returns-then-not-amounts-clause-number
-unfolding unless
-returns-then-not-amounts-clause-number c =
-    let by = refusal_by_tests c.args.block.now c.if-block-ne-FOODS_BYTES.false c.in_ok-check_block.ensures
-    (read (goal.at.returns-then-not-amounts-clause-number c).After-shares_fit-shares) c.shares_fit-shares.ensures c.amounts_fit-amounts.ensures in
-    rw (c.if-not-shares.false, c.if-not-amounts.true) at by
 
 pub invariant_of-result : goal.invariant_of-result
-invariant_of-result c = record { within = fit_limits _ (sym c.shares_fit-shares.ensures ∙ c.if-not-shares.false) (sym c.amounts_fit-amounts.ensures ∙ c.if-not-amounts.false) }
-
-pub returns-clause-number : goal.returns-clause-number
-returns-clause-number c = accepted (goal.at.returns-clause-number c).After-amounts_fit-amounts c.if-not-shares.false c.if-not-amounts.false
-
-pub returns-clause-figures : goal.returns-clause-figures
-returns-clause-figures c =
-    accepted_block c.args.block.now c.if-block-ne-FOODS_BYTES.false c.in_ok-check_block.ensures (read (goal.at.returns-clause-figures c).After-shares_fit-shares)
-    (accepted (goal.at.returns-clause-figures c).After-amounts_fit-amounts c.if-not-shares.false c.if-not-amounts.false)
+invariant_of-result c = record { within = read_within c.args.block.now c.in_ok-decode.ensures.number c.in_ok-decode.ensures.figures_after refl }
