@@ -1,4 +1,4 @@
-// The C interface for firmware: include/jurengate.h declares these calls. Each is the call of its name in the library, with its promises.
+// The C interface for firmware: include/jurengate.h declares these calls.
 #![tactic(auto)]
 
 ghost use Rattle.std.specs.Prelude.{◌≡◌, length};
@@ -12,12 +12,29 @@ ghost use Rattle.engine.specs.Month.{month_of};
 ghost use Rattle.child.specs.Months.{run_answer, run_list};
 ghost use Rattle.engine.specs.Run.{run_of};
 ghost use Rattle.files.specs.Files.{files_of, files_with};
+ghost use Rattle.files.specs.CallFiles.{files_in};
 ghost use Rattle.jurengate.specs.Words.{words_of, state_of};
 
 use book::TABLE_NUMBERS;
+use files::CallFiles;
 use foods::places::FIGURES;
 use jurengate::WORDS;
 use site::places::FIELDS;
+
+// The files of a call without a foods block, and with one.
+fn files_of<'a>(site: &'a [u8], book: &'a [u8]) -> CallFiles<'a>
+    ensures { files_in result ≡ files_of site.now book.now }
+{
+    let foods = None;
+    CallFiles { site, foods, book }
+}
+
+fn files_with<'a>(site: &'a [u8], foods: &'a [u8], book: &'a [u8]) -> CallFiles<'a>
+    ensures { files_in result ≡ files_with site.now foods.now book.now }
+{
+    let foods = Some(foods);
+    CallFiles { site, foods, book }
+}
 
 // Reads a site file: its refusal, and its fields, zeros if it is refused.
 #[unsafe(no_mangle)]
@@ -25,7 +42,12 @@ pub extern "C" fn jurengate_read_site(site: &[u8], fields: &mut [u32; FIELDS]) -
     ensures value { result ≡ (read_site site.now).refusal }
     ensures fields_after { fields.new ≡ (read_site site.now).scenario.fields }
 {
-    jurengate::jurengate_read_site(site, fields)
+    let site_read = site::read_site(site);
+    *fields = match site_read {
+        Ok(scenario) => scenario.fields,
+        Err(_) => [0; FIELDS],
+    };
+    refusal::number_in(&site_read)
 }
 
 // Reads a rate book: its refusal, and its 85 rows of 23 numbers, zeros if it is refused.
@@ -34,7 +56,9 @@ pub extern "C" fn jurengate_read_book(book: &[u8], table: &mut [u32; TABLE_NUMBE
     ensures value { result ≡ book_refusal book.now }
     ensures table_after { table.new ≡ book_table book.now }
 {
-    jurengate::jurengate_read_book(book, table)
+    let mut decodes = 0;
+    let book_read = book::read_book(book, table, &mut decodes);
+    refusal::number_in(&book_read)
 }
 
 // Reads a foods block: its refusal, and its 128 figures, 105 grams, 15 leads, 4 shares, 4 leads, zeros if it is refused.
@@ -43,7 +67,8 @@ pub extern "C" fn jurengate_read_foods(foods: &[u8], figures: &mut [u32; FIGURES
     ensures value { result ≡ foods_refusal foods.now }
     ensures figures_after { figures.new ≡ foods_figures foods.now }
 {
-    jurengate::jurengate_read_foods(foods, figures)
+    let foods_read = foods::read_figures(foods, figures);
+    refusal::number_in(&foods_read)
 }
 
 // Writes a body of 508 bytes with its check into a target of 512.
@@ -52,7 +77,8 @@ pub extern "C" fn jurengate_write_block(body: &[u8], target: &mut [u8]) -> u32
     ensures value { result ≡ writer_refusal body.now target.old }
     ensures target_after { target.new ≡ written body.now target.old }
 {
-    jurengate::jurengate_write_block(body, target)
+    let wrote = block::write::write_block(body, target);
+    refusal::number_in(&wrote)
 }
 
 // Birth: the child at month 0, all zeros if it is refused.
@@ -61,7 +87,7 @@ pub extern "C" fn jurengate_birth(site: &[u8], book: &[u8], state: &mut [u64; WO
     ensures value { result ≡ (birth_of (files_of site.now book.now)).refusal }
     ensures state_after { state.new ≡ words_of (birth_of (files_of site.now book.now)).state }
 {
-    jurengate::jurengate_birth(site, book, state)
+    jurengate::birth_into(&files_of(site, book), state)
 }
 
 // One month: the child a month later and its blood figure; if it is refused, the child as it was and 0.
@@ -76,7 +102,7 @@ pub extern "C" fn jurengate_month(
     ensures state_after { state.new ≡ words_of (month_of steps_a_day (state_of state.old) (files_of site.now book.now)).state }
     ensures blood_after { blood.new ≡ (month_of steps_a_day (state_of state.old) (files_of site.now book.now)).blood }
 {
-    jurengate::jurengate_month(site, book, state, blood)
+    jurengate::month_into(&files_of(site, book), state, blood)
 }
 
 // The run: birth and 84 months, the figure of each month done written into the list.
@@ -93,7 +119,7 @@ pub extern "C" fn jurengate_run(
     ensures state_after { state.new ≡ words_of (run_of steps_a_day (files_of site.now book.now) (length blood.old)).state }
     ensures months_after { months.new ≡ (run_answer (run_of steps_a_day (files_of site.now book.now) (length blood.old))).months }
 {
-    jurengate::jurengate_run(site, book, blood, state, months)
+    jurengate::run_into(&files_of(site, book), blood, state, months)
 }
 
 // The same three with a foods block, whose diet takes the place of the site file's.
@@ -107,7 +133,7 @@ pub extern "C" fn jurengate_birth_foods(
     ensures value { result ≡ (birth_of (files_with site.now foods.now book.now)).refusal }
     ensures state_after { state.new ≡ words_of (birth_of (files_with site.now foods.now book.now)).state }
 {
-    jurengate::jurengate_birth_foods(site, foods, book, state)
+    jurengate::birth_into(&files_with(site, foods, book), state)
 }
 
 #[unsafe(no_mangle)]
@@ -122,7 +148,7 @@ pub extern "C" fn jurengate_month_foods(
     ensures state_after { state.new ≡ words_of (month_of steps_a_day (state_of state.old) (files_with site.now foods.now book.now)).state }
     ensures blood_after { blood.new ≡ (month_of steps_a_day (state_of state.old) (files_with site.now foods.now book.now)).blood }
 {
-    jurengate::jurengate_month_foods(site, foods, book, state, blood)
+    jurengate::month_into(&files_with(site, foods, book), state, blood)
 }
 
 #[unsafe(no_mangle)]
@@ -139,5 +165,5 @@ pub extern "C" fn jurengate_run_foods(
     ensures state_after { state.new ≡ words_of (run_of steps_a_day (files_with site.now foods.now book.now) (length blood.old)).state }
     ensures months_after { months.new ≡ (run_answer (run_of steps_a_day (files_with site.now foods.now book.now) (length blood.old))).months }
 {
-    jurengate::jurengate_run_foods(site, foods, book, blood, state, months)
+    jurengate::run_into(&files_with(site, foods, book), blood, state, months)
 }

@@ -1,4 +1,4 @@
-// The calls of the C interface for batch cards, which jurengate_cards_c exports and include/jurengate_cards.h declares.
+// The C interface for batch cards: include/jurengate_cards.h declares these calls.
 #![tactic(auto)]
 
 ghost use Rattle.std.specs.Prelude.{◌≡◌, length};
@@ -14,7 +14,8 @@ ghost use Rattle.group.specs.Group.{answered, group_answers};
 use group::answers::WORDS;
 
 // A row over a site file, a foods block if `has_foods` says so, and a rate book: its number, its blood and whether it is skipped.
-pub fn jurengate_card_row(
+#[unsafe(no_mangle)]
+pub extern "C" fn jurengate_card_row(
     site: &[u8],
     has_foods: bool,
     foods: &[u8],
@@ -36,7 +37,8 @@ pub fn jurengate_card_row(
 
 // The first 64 rows of a text of rows, or all if it has fewer, over one reading of these files: their number, their answers in pairs, how many
 // blocks of the book were decoded, and where the next row starts.
-pub fn jurengate_card_group(
+#[unsafe(no_mangle)]
+pub extern "C" fn jurengate_card_group(
     site: &[u8],
     has_foods: bool,
     foods: &[u8],

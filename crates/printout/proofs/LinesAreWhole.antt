@@ -4,23 +4,18 @@ use mathlib.Core.Path.{◌≡◌, refl, sym, ap, ap₂, ◌∙◌}
 use Prim.Native.Nat.{ℕ, zero, suc, ◌+◌, ◌-◌, ◌≤◌, ◌<◌}
 use mathlib.Core.List.{List, [], ◌∷◌, ◌++◌, append-nil, append_assoc}
 use native.Mathlib.Nat.{add-zero, zero-add}
-use native.Mathlib.Numerals.{add-one}
 use native.Mathlib.Omega.{arith}
 use borrow.Author.Tests.{lt-ltb, le-ltb, eq-eqb, ne_eqb}
 use lib.ListN.{length, get_or, drop, replicate, get_or-append}
-use Rattle.numbers.proofs.Refusals.{answer_refused}
 use Rattle.row.specs.Row.{last_month}
 use Rattle.steps.specs.Steps.{steps_a_day}
 use Rattle.child.specs.Months.{MonthsRun}
 use Rattle.engine.specs.Run.{run_of}
-use Rattle.printout.specs.declared.Prepared.{Prepared}
-use Rattle.printout.specs.Printout.{month_line, month_lines, last_line, refused_line, printout_of}
+use Rattle.printout.specs.Kept.{Prepared}
+use Rattle.printout.specs.Printout.{month_line, month_lines, last_line, printout_of}
 use Rattle.printout.specs.Lines.{kept_of, prepared_of, line_at, lines_from}
 use Rattle.printout.specs.Laws.{LinesLaw}
 use Rattle.printout.proofs.MonthsAtMost.{run_at_most}
-
-last_refused : (r m : ℕ) → (r ≡ 0 → ⊥) → last_line r m ≡ refused_line r m
-last_refused r m h = answer_refused [] (λ n. refused_line n m) r h
 
 -- line k by its place
 module _ (p : Prepared) (k : ℕ) where
@@ -29,25 +24,15 @@ module _ (p : Prepared) (k : ℕ) where
   unfolding line_at
   line_done h = rw (lt-ltb k p.months h)
 
-  pub line_month : k < p.months → {blood : ℕ} → blood ≡ get_or p.blood k 0 → line_at p k ≡ month_line (k + 1) blood
-  line_month h e = rw (e, add-one) (line_done h)
-
   -- past the months: the last line of a refused run, or none
   line_last : k ≡ p.months → line_at p k ≡ last_line p.refusal p.months
   unfolding line_at
   line_last h = rw (le-ltb k p.months (omega arith), eq-eqb k p.months h)
 
   -- past the last line
-  pub line_past : p.months < k → line_at p k ≡ []
+  line_past : p.months < k → line_at p k ≡ []
   unfolding line_at
   line_past h = rw (le-ltb k p.months (omega arith), ne_eqb k p.months (λ e. omega arith))
-
-  pub line_refused : k ≡ p.months → (p.refusal ≡ 0 → ⊥) → line_at p k ≡ refused_line p.refusal p.months
-  line_refused h r = line_last h ∙ last_refused p.refusal p.months r
-
-  -- after the months of a run that was not refused
-  pub line_none : k ≡ p.months → p.refusal ≡ 0 → line_at p k ≡ []
-  line_none h r = line_last h ∙ ap (λ (n : ℕ). last_line n p.months) r
 
 -- no line is left past the last
 lines_past : (p : Prepared) (k n : ℕ) → p.months < k → lines_from (line_at p) k n ≡ []

@@ -6,7 +6,7 @@ use Rattle.row.specs.Row.{last_month}
 use Rattle.steps.specs.Steps.{steps_a_day}
 use Rattle.child.specs.Months.{MonthsRun, run_list}
 use Rattle.engine.specs.Run.{run_of}
-use Rattle.printout.specs.declared.Prepared.{Prepared}
+use Rattle.printout.specs.Kept.{Prepared}
 use Rattle.printout.specs.Printout.{month_line, last_line}
 
 -- what is kept of a run: its refusal, the months done, and 84 places that begin with their figures

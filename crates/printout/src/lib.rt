@@ -2,10 +2,15 @@
 #![tactic(auto)]
 
 ghost use Rattle.std.specs.Prelude.{◌≡◌, get_or};
+ghost use Rattle.refusal.specs.Refusal.{number_in};
 ghost use Rattle.files.specs.Files.{files_of};
+ghost use Rattle.printout.specs.Printout.{last_line};
 ghost use Rattle.printout.specs.Lines.{prepared_of, line_at};
+ghost use Rattle.printout.specs.Prepared.{prepared_in};
 
 use child::months::MONTHS;
+use files::CallFiles;
+use refusal::Refusal;
 use text::Line;
 
 mod lines; // lines.rt: a month's line and the last line
@@ -19,23 +24,24 @@ pub const LINES: u32 = MONTHS as u32 + 1;
 // What is kept of a run for its printout.
 #[derive(Clone, Copy, Debug, PartialEq, Eq)]
 pub struct Prepared {
-    pub refusal: u32,
     pub months: u32,
     pub blood: [u32; MONTHS], // thousandths of ug/dL, of the months done
+    pub end: Result<(), Refusal>, // the refusal that ended the run, if one did
 }
 
 // Runs the two files, of any length and content.
 #[tactic(auto, unfolding(crate::specs::Lines::prepared_of))]
-pub fn prepare(site: &[u8], book: &[u8]) -> Prepared
-    ensures { result ≡ prepared_of (files_of site.now book.now) }
+pub fn prepare<'a>(site: &'a [u8], book: &'a [u8]) -> Prepared
+    ensures { prepared_in result ≡ prepared_of (files_of site.now book.now) }
 {
+    let foods = None;
+    let files = CallFiles { site, foods, book };
     let mut blood = [0u32; MONTHS];
-    let files = files::call_files(site, false, &site[..0], book);
     let run = engine::run(&files, &mut blood);
     Prepared {
-        refusal: refusal::number_in(&run.end),
         months: run.months,
         blood,
+        end: run.end,
     }
 }
 
@@ -47,16 +53,27 @@ impl Prepared {
         self.blood.get(k as usize).copied().unwrap_or(0)
     }
 
+    // The last line: that of the refusal that ended the run, or no bytes.
+    fn last_line(&self) -> Line<LINE_BYTES>
+        ensures { result ≡ last_line (number_in self.now.end) self.now.months }
+    {
+        match self.end {
+            Ok(()) => Line::new(),
+            Err(refusal) => lines::refused_line(refusal, self.months),
+        }
+    }
+
     // Line k, from 0: no bytes past the last line.
+    #[tactic(auto, unfolding(crate::specs::Lines::line_at))]
     pub fn line(&self, k: u32) -> Line<LINE_BYTES>
-        ensures { result ≡ line_at self.now k }
+        ensures { result ≡ line_at (prepared_in self.now) k }
     {
         if k < self.months {
-            return lines::month_line(k + 1, self.figure(k));
+            lines::month_line(k + 1, self.figure(k))
+        } else if k == self.months {
+            self.last_line()
+        } else {
+            Line::new()
         }
-        if k > self.months || self.refusal == 0 {
-            return Line::new();
-        }
-        lines::refused_line(self.refusal, self.months)
     }
 }

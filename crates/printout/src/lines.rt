@@ -1,8 +1,10 @@
 // A month's line, and the last line of a refused run.
 ghost use Rattle.std.specs.Prelude.{◌≡◌};
+ghost use Rattle.refusal.specs.Refusal.{number_of};
 ghost use Rattle.printout.specs.Printout.{flag, month_line, refused_line};
 
 use super::LINE_BYTES;
+use refusal::Refusal;
 use text::Line;
 
 // A blood figure over this is marked, thousandths of ug/dL.
@@ -32,12 +34,12 @@ pub fn month_line(month: u32, blood: u32) -> Line<LINE_BYTES>
 
 // The last line of a refused run: the refusal's number and the months done.
 #[tactic(auto, using(std::proofs::Common::append_assoc), unfolding(crate::specs::Printout::refused_line))]
-pub fn refused_line(refusal: u32, months: u32) -> Line<LINE_BYTES>
-    ensures { result ≡ refused_line refusal months }
+pub fn refused_line(refusal: Refusal, months: u32) -> Line<LINE_BYTES>
+    ensures { result ≡ refused_line (number_of refusal) months }
 {
     let mut line = Line::new();
     line.put_text(b"refused ");
-    line.put_decimal(refusal as u64);
+    line.put_decimal(refusal.number() as u64);
     line.put_text(b" after ");
     line.put_decimal(months as u64);
     line.put_byte(b'\n');

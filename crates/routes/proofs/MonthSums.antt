@@ -13,13 +13,11 @@ use Rattle.numbers.specs.Choice.{tab}
 use Rattle.numbers.proofs.Every.{tab_is}
 use Rattle.numbers.proofs.Refusals.{or_else_first, or_else-last, answer_refused}
 use Rattle.exposure.specs.declared.Exposure.{Exposure}
-use Rattle.row.specs.declared.Row.{Row}
 use Rattle.site.specs.declared.Scenario.{Scenario}
-use Rattle.row.specs.Row.{last_month, row_of}
+use Rattle.row.specs.Row.{last_month}
 use Rattle.intake.specs.Intake.{intake_refusal}
 use Rattle.uptake.specs.declared.Routes.{Routes}
 use Rattle.uptake.specs.Routes.{route_sum, day_routes}
-use Rattle.child.specs.Month.{exposure_in, saturation_month}
 use Rattle.files.specs.Files.{Files, files_refusal, scenario_in, table_in}
 use Rattle.routes.specs.declared.RouteSums.{RouteSums}
 use Rattle.routes.specs.Sums.{month_routes, sums_of, month_sums, sums_refusal, no_sums, kept_sums, monthly_sums}
@@ -35,12 +33,6 @@ module _ (e : Exposure) (weight weight24 : ℕ) where
       → ◌≡◌ {A = RouteSums} (record { passive = passive; active = active }) (exposed_sums e weight weight24)
   unfolding exposed_sums
   exposed_some z er ep ea = rw (z, ep, ea, er)
-
--- by what the code reads of the scenario and the table
-pub given_sums : (scenario : Scenario) (table : List ℕ) (m : ℕ) {e : Exposure} {row row24 : Row} → e ≡ exposure_in scenario m → row ≡ row_of table m → row24 ≡ row_of table saturation_month
-    → exposed_sums e row.body_weight row24.body_weight ≡ sums_in scenario table m
-unfolding sums_in
-given_sums scenario table m ee er e24 = rw (ee, er, e24)
 
 -- the sums of the first few months are stored
 pub record SumsStored (scenario : Scenario) (table : List ℕ) (sums : List RouteSums) (done : ℕ) : Type 0 where
