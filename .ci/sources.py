@@ -13,18 +13,26 @@ LAW_FILES = [
     "Limits.antt",
     "Lists.antt",
     "Margin.antt",
+    "RowRead.antt",
     "Solution.antt",
     "Witness.antt",
 ]
 
 # Those of them that have words alone.
-WORD_FILES = ["Lists.antt", "Solution.antt"]
+WORD_FILES = ["Lists.antt", "RowRead.antt", "Solution.antt"]
 
 # Definitions of other files that laws take for granted: file -> names.
-LAWS_ELSEWHERE = {"crates/block/specs/Block.antt": ["Bytes"], "crates/block/specs/Writer.antt": ["BodyPasses"]}
+LAWS_ELSEWHERE = {
+    "crates/block/specs/Block.antt": ["Bytes"],
+    "crates/block/specs/Writer.antt": ["BodyPasses"],
+    "crates/cardsite/specs/Running.antt": ["Running"],
+}
 
 # Files of contracts between functions, which promise nothing to a caller of the engine.
-INTERNAL_FILES = ["Bounds.antt", "Internal.antt"]
+INTERNAL_FILES = ["Bounds.antt", "Decoded.antt", "Internal.antt"]
+
+# Libraries that the exports stand on and that are the C interface too: what they call is open.
+C_LIBRARIES = ["jurengate"]
 
 # The head of a definition in a specs file.
 HEAD = r" *(?:(?:abbrev|unfoldable) pub|pub (?:record|data))"
@@ -105,24 +113,55 @@ def file_of(call):
     return ROOT / "crates" / crate / "src" / ("/".join(modules or ["lib"]) + ".rt")
 
 
+def methods(lines, type_name):
+    """The lines of a type's `impl` blocks, as they would stand outside of them."""
+    found, inside = [], False
+    for line in lines:
+        if re.match(r"impl(<[^>]*>)? (.* for )?%s\b" % type_name, line):
+            inside = True
+        elif line == "}":
+            inside = False
+        elif inside:
+            found.append(line.removeprefix("    "))
+    return found
+
+
+def methods_in(path):
+    """The methods of other crates' types that a file takes in and calls: (call, file, signature and contract)."""
+    lines = code(path)
+    text = "\n".join(lines)
+    found = []
+    for place, items in re.findall(r"^use ([\w:]+)::(\w+|\{[^}]*\});", text, re.M):
+        crate = place.split("::")[0]
+        for type_name in re.findall(r"\b[A-Z]\w*[a-z]\w*", items) if crate in crates() else []:
+            for file in files("crates/%s/src/**/*.rt" % crate):
+                own = methods(code(file), type_name)
+                for method in re.findall(r"^pub fn (\w+)", "\n".join(own), re.M):
+                    if re.search(r"(\.|\b%s::)%s\(" % (type_name, method), text):
+                        found.append(("%s::%s::%s" % (crate, type_name, method), file, contract(own, method)))
+    return found
+
+
 def calls():
     """The open calls, which are those that a program or the C interface makes, and the exported ones: (name, file, signature and
-    contract or None). An export only hands on to the library's call of its name, whose file is the C interface too."""
-    opened, exported = set(), []
+    contract or None)."""
+    opened, own, exported = set(), [], []
     for path in files("crates/*/src/**/*.rt"):
         lines = code(path)
         exports = re.findall(r'^pub extern "C" fn (\w+)', "\n".join(lines), re.M)
         exported += [(function, path, contract(lines, function)) for function in exports]
         if exports or path.name == "main.rt":
             opened |= calls_in(path)
+            own += methods_in(path)
         if exports:
-            for library in {file_of(call) for call in calls_in(path)}:
+            for library in {file_of(call) for call in calls_in(path) if call.split("::")[0] in C_LIBRARIES}:
                 opened |= calls_in(library)
     found = []
     for call in sorted(opened):
-        path = file_of(call)
-        found.append((call, path, contract(code(path), call.split("::")[-1]) if path.exists() else None))
-    return found + exported
+        if not call.split("::")[-2][0].isupper():
+            path = file_of(call)
+            found.append((call, path, contract(code(path), call.split("::")[-1]) if path.exists() else None))
+    return found + own + exported
 
 
 def law_files():
