@@ -61,7 +61,7 @@ fn start_answer(kept: &RowText, scenario: &Scenario, table: &[u32; TABLE_NUMBERS
     match cardsite::start_row(kept) {
         Ok(Some(card)) => card_answer(&card, scenario, table),
         Ok(None) => RowAnswer::Skipped,
-        Err(refusal) => RowAnswer::Refused(refusal.number()),
+        Err(own) => RowAnswer::Refused(own.number()),
     }
 }
 
