@@ -75,12 +75,6 @@ limits-at d m h =
       weights = record { least = limits.body_least; most = limits.body_most; least24 = limits24.body_least; most24 = limits24.body_most };
     }
 
--- and so is what they give the month after a state that a month can follow
-pub month_limits : {scenario : Scenario} {table : List ℕ} → Decoded scenario table → (a : State) → state_refusal a ≡ 0 → {e : Exposure} {row : Row} {weight24 : ℕ}
-    → MonthGiven scenario table a e row weight24 → MonthLimits e row weight24
-month_limits d a passed given =
-    rw (given.exposure_is, given.row_is, given.weight_is) (limits-at d (month_after a) (month_after_most a passed))
-
 -- by where its steps end
 module _ (s : ℕ) (rates : State → Rates) (a : State) (row : Row) (t : ℕ) where
   pub stepped_refused : (e : Refusal) → ReachedBy rates a (days_shares s t days_a_month) (days_a_month * t) (Err e)

@@ -1,11 +1,8 @@
 -- For the contracts between the functions: what the parts of a call ask of each other and promise. No open call's contract needs it.
 -- Assumes nothing.
-use Rattle.std.specs.Prelude.{ℕ, ◌≤◌, ◌≡◌, List, drop}
+use Rattle.std.specs.Prelude.{ℕ, ◌≡◌, List, drop}
 use Rattle.site.specs.declared.Scenario.{Scenario}
 use Rattle.exposure.specs.declared.Exposure.{Exposure}
-use Rattle.exposure.specs.Exposure.{exposure_at}
-use Rattle.site.specs.Fields.{last_age}
-use Rattle.site.specs.Scenario.{mother_of}
 use Rattle.exposure.specs.Limits.{ExposureLimits}
 use Rattle.row.specs.declared.Rates.{Rates}
 use Rattle.row.specs.Row.{last_month, row_of}

@@ -47,7 +47,8 @@ impl Course {
         }
     }
 
-    // A month more of a course whose month is given by its exposure and what the book has for it.
+    // A month more of a course whose month is given by its exposure and what the book has for it. Beside `next_month`, since rows that run together share
+    // what the book gives a month.
     pub fn next_exposed(&self, exposure: &LimitedExposure, booked: &BookedMonth) -> Course
         ensures { (scenario : Scenario) (table : List ℕ) → ((course_in self.now).refusal ≡ 0 → MonthGiven scenario table self.now.state exposure.now.exposure booked.now.row booked.now.weight24) → course_in result ≡ next_month steps_a_day scenario table (course_in self.now) }
     {

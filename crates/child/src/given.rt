@@ -5,7 +5,7 @@ use book::TABLE_NUMBERS;
 use site::Scenario;
 
 // A scenario and a book's table that accepted files give: what a child of them needs is within its limits.
-#[derive(Clone, Copy)]
+#[derive(Clone, Copy, Debug, PartialEq, Eq)]
 pub struct Accepted<'a> {
     pub scenario: &'a Scenario,
     pub table: &'a [u32; TABLE_NUMBERS],
