@@ -1,4 +1,5 @@
 // The words of a row on a roll: what becomes of it, its AGE or its number, and seven figures.
+// Figures and cards are turned into words and back by functions, since no type on either side is of this crate.
 ghost use Rattle.std.specs.Prelude.{◌≡◌, ◌≤◌, length};
 ghost use Rattle.card.specs.Row.{read_kept};
 ghost use Rattle.cardsite.specs.Start.{start_of};
