@@ -61,7 +61,8 @@ pub fn read_figures(block: &[u8], figures: &mut [u32; FIGURES]) -> Result<(), Re
     Ok(())
 }
 
-// Reads a foods block into its 128 figures.
+// Reads a foods block into its 128 figures. It is not inlined, so that they are off the stack again when its caller goes on.
+#[inline(never)]
 pub fn read_foods(block: &[u8]) -> Result<FoodsFigures, Refusal>
     ensures number { number_in result ≡ foods_refusal block.now }
     ensures figures { IfOk result (λ f. f.figures ≡ foods_figures block.now) }
