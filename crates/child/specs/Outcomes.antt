@@ -21,12 +21,12 @@ month_answer_in a (Ok m) = record { refusal = 0; state = m.state; blood = m.bloo
 month_answer_in a (Err r) = record { refusal = number_of r; state = a; blood = 0 }
 
 -- a refused course has blood 0
-abbrev pub blood_in : Result ℕ Refusal → ℕ
-blood_in (Ok blood) = blood
-blood_in (Err r) = 0
+abbrev pub course_with : State → Result ℕ Refusal → Course
+course_with a (Ok blood) = record { refusal = 0; state = a; blood = blood }
+course_with a (Err r) = record { refusal = number_of r; state = a; blood = 0 }
 
 abbrev pub course_in : code.Course → Course
-course_in c = record { refusal = number_in c.blood; state = c.state; blood = blood_in c.blood }
+course_in c = course_with c.state c.blood
 
 abbrev pub run_answer_in : Run → RunAnswer
 run_answer_in r = record { refusal = number_in r.end; months = r.months; state = r.state }
