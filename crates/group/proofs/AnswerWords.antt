@@ -4,7 +4,7 @@ use Prim.Native.Nat.{ℕ, ◌+◌, ◌*◌, ◌≤◌, ◌<◌}
 use mathlib.Core.Path.{◌≡◌, refl, sym, ap, ◌∙◌}
 use mathlib.Core.List.{List, [], ◌∷◌, ◌++◌, map, append-nil, append_assoc}
 use native.Mathlib.Omega.{arith}
-use lib.ListN.{length, get_or, take, drop, length-append, length-drop}
+use lib.ListN.{length, get_or, take, drop, length-append}
 use Rattle.std.proofs.Common.{Option, None, Result, Ok}
 use Rattle.std.proofs.lemmas.List.{take_more, map-append}
 use Rattle.numbers.specs.Parts.{placed}
@@ -30,11 +30,6 @@ words_append : (given : List RowAnswer) (a : RowAnswer) → group_words (given +
 unfolding group_words
 words_append [] a = append-nil (answer_words a)
 words_append (b ∷ given) a = ap (answer_words b ++◌) (words_append given a) ∙ sym (append_assoc (answer_words b) (group_words given) (answer_words a))
-
--- with the answers in front the lent words are as many as before
-pub answered_long : (given : List RowAnswer) (lent : List ℕ) → words_an_answer * length given ≤ length lent → length (answered given lent) ≡ length lent
-answered_long given lent h =
-    length-append (group_words given) _ ∙ rw (words_long given, length-drop (words_an_answer * length given) lent) (omega arith)
 
 -- THE LOOP over the rows: the answers so far
 pub record Answering (lent : List ℕ) (n : ℕ) (given : List RowAnswer) (l : List ℕ) (i : ℕ) : Type 0 where

@@ -1,10 +1,9 @@
 -- The courses of a group's rows, month by month: a row's course goes on up to its AGE, where it rests.
 -- Assumes nothing.
-use Prim.Native.Nat.{ℕ, suc, ◌+◌, ◌≤◌, ◌<◌, min, max}
+use Prim.Native.Nat.{ℕ, suc, ◌+◌, ◌≤◌, ◌<◌, min}
 use mathlib.Core.Path.{◌≡◌, refl, sym, ap, ◌∙◌}
 use mathlib.Core.List.{List, map}
 use native.Mathlib.Omega.{arith}
-use native.Mathlib.Decide.{ℕ_discrete}
 use lib.ListN.{replicate, get_or, set, get_or-replicate, get_or-map, length-replicate, length-map}
 use Rattle.std.proofs.Common.{Result, Ok, Err}
 use Rattle.std.proofs.lemmas.List.{map-set}
@@ -34,7 +33,6 @@ use Rattle.cardsite.specs.RowExposure.{row_exposure}
 use Rattle.cardsite.specs.Running.{Running}
 use Rattle.cardsite.proofs.RowValues.{row_mother, row_exposures}
 use Rattle.roll.specs.Words.{rows_a_group, start_at}
-use Rattle.roll.proofs.RowWords.{start_running}
 use Rattle.survey.specs.Internal.{Ready}
 use Rattle.survey.proofs.RowAnswers.{row_decoded}
 use Rattle.group.specs.Internal.{until_of, LastMonth, course_by, GroupMonth, no_course, CoursesRun}
@@ -123,27 +121,6 @@ module _ (s : ℕ) (scenario : Scenario) (table : List ℕ) (ready : Ready scena
         → CoursesRun s scenario table roll n courses
     courses_ended {last} {m} l h courses all =
         record { each = λ i g. sym (get_or-map course_in courses i no_course) ∙ all.each i g ∙ ended_by_lem (start_at roll i) m (omega (arith, l.reaches i g)) }
-
--- the last month: none yet, and one row more
-until_most : (x : Start) → ((c : Card) → x ≡ start.Runs c → Running c) → until_of x ≤ last_month
-until_most (start.Runs c) runs = (runs c refl).last
-until_most start.Skipped runs = omega arith
-until_most (start.Refused n) runs = omega arith
-
-module _ (roll : List ℕ) where
-  pub last_none : LastMonth roll 0 0
-  last_none = record { reaches = λ i h. absurd (omega arith); within = omega arith }
-
-  pub last-next : {n last : ℕ} → LastMonth roll n last → {x : Start} {months next : ℕ} → x ≡ start_at roll n → months ≡ until_of x → next ≡ max last months → LastMonth roll (n + 1) next
-  last-next {n} {last} l {x} {months} {next} ex em en =
-      record { reaches = λ i h. by i (ℕ_discrete i n) h; within = omega (arith, l.within, most) }
-    where
-      most : months ≤ last_month
-      most = rw (em, ex) (until_most (start_at roll n) (λ c e. start_running _ c e))
-
-      by : (i : ℕ) → Dec (i ≡ n) → i < n + 1 → until_of (start_at roll i) ≤ next
-      by i (yes z) h = let same : until_of (start_at roll i) ≡ months = rw z (sym (em ∙ ap until_of ex)) in omega arith
-      by i (no z) h = omega (arith, l.reaches i (omega arith))
 
 -- the row's course a month later, by what the code answers of it
 module _ (s : ℕ) (scenario : Scenario) (table roll : List ℕ) (n done : ℕ) where
