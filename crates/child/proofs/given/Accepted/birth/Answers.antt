@@ -1,5 +1,5 @@
 -- `child::given::Accepted::birth` meets its contract: refused by its burden, or the newborn child.
-use Prim.Native.Nat.{ℕ, min}
+use Prim.Native.Nat.{min}
 use mathlib.Core.Path.{◌≡◌, refl, ap₂, ◌∙◌}
 use lib.ListN.{length}
 use borrow.Author.Rules.{rules}

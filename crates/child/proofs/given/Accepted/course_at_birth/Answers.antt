@@ -1,6 +1,4 @@
 -- `child::given::Accepted::course_at_birth` meets its contract: what birth answers.
-use mathlib.Core.Path.{ap, ◌∙◌}
-use Rattle.kinetics.specs.declared.State.{State}
 use Rattle.steps.specs.Steps.{steps_a_day}
 use Rattle.child.proofs.CourseSteps.{course_born}
 use Rattle.child.proofs.given.Accepted.course_at_birth.Goals as goal
