@@ -54,7 +54,7 @@ impl Accepted<'_> {
         Ok(child)
     }
 
-    // What a child is exposed to in a month, 1 to 84.
+    // What a child is exposed to in a month, 1 to 84 (its range is asked for as by `uptake::age::age_of`).
     pub fn exposure(&self, month: u64) -> LimitedExposure
         requires { (1 ≤ month) × (month ≤ last_month) }
         ensures { result.exposure ≡ exposure_in self.now.scenario.now month }

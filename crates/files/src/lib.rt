@@ -21,7 +21,7 @@ pub struct CallFiles<'a> {
     pub book: &'a [u8],
 }
 
-// The files of a call that has a foods block if `has_foods` says so.
+// The files of a call that has a foods block if `has_foods` says so, as C says it: the calls for cards hand on its flag.
 pub fn call_files<'a>(
     site: &'a [u8],
     has_foods: bool,

@@ -122,7 +122,7 @@ pub extern "C" fn jurengate_run(
     jurengate::run_into(&files_of(site, book), blood, state, months)
 }
 
-// The same three with a foods block, whose diet takes the place of the site file's.
+// The same three with a foods block, whose diet takes the place of the site file's: C has no argument that may be left out.
 #[unsafe(no_mangle)]
 pub extern "C" fn jurengate_birth_foods(
     site: &[u8],

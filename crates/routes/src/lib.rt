@@ -46,7 +46,7 @@ fn exposed_sums(limited: &LimitedExposure, weights: BodyWeights) -> RouteSums
     }
 }
 
-// The sums of a month's day, 1 to 84, from accepted files.
+// The sums of a month's day, 1 to 84, from accepted files (its range is asked for as by `uptake::age::age_of`).
 #[tactic(auto, unfolding(crate::specs::Internal::sums_in))]
 fn sums_in(accepted: &Accepted, month: u64) -> RouteSums
     requires { (1 ≤ month) × (month ≤ last_month) }

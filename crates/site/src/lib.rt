@@ -58,6 +58,7 @@ impl From<u32> for DustSource {
     }
 }
 
+// Beside the one above, since the two modes choose between other sources: one impl over both would need a type of both.
 impl From<u32> for WaterSource {
     ghost from_gives = { λ mode source. source ≡ water_source_of mode };
 
