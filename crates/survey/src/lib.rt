@@ -31,7 +31,9 @@ impl<'a> ReadyFiles<'a> {
         }
     }
 
-    // The blood figure at the AGE of a card that runs, in thousandths of ug/dL: birth, and the months up to it.
+    // The blood figure at the AGE of a card that runs, in thousandths of ug/dL: birth, and the months up to it. Not inlined, so that what reading the
+    // files takes is off the stack by then.
+    #[inline(never)]
     fn card_blood(&self, running: &RunningCard) -> Result<u32, Refusal>
         ensures { blood_in result ≡ card_answer steps_a_day self.now.scenario.now self.now.table.now running.now.card }
     {
