@@ -6,13 +6,13 @@ ghost use Rattle.child.specs.Outcomes.{course_in};
 ghost use Rattle.cardsite.specs.Start.{Runs};
 ghost use Rattle.roll.specs.Words.{rows_a_group};
 ghost use Rattle.roll.specs.Read.{start_read};
-ghost use Rattle.group.specs.Internal.{until_of, course_by, LastMonth, CoursesRun};
+ghost use Rattle.group.specs.Internal.{until_of, course_by, LastMonth};
 
 use crate::month::SharedMonth;
 use cardsite::RunningCard;
 use child::courses::Course;
 use exposure::limited::LimitedExposure;
-use roll::{GROUP_ROWS, Roll};
+use roll::Roll;
 use survey::ready::ReadyFiles;
 
 // How many months a row is run: up to its AGE, and none if it is skipped or refused.
@@ -26,7 +26,7 @@ fn until(start: &Result<Option<RunningCard>, u32>) -> u64
 }
 
 // The last month that a row of the roll is run.
-fn last_month(roll: &Roll) -> u64
+pub fn last_month(roll: &Roll) -> u64
     ensures { LastMonth roll.now.words (min roll.now.count rows_a_group) result }
 {
     let mut last = 0;
@@ -38,7 +38,7 @@ fn last_month(roll: &Roll) -> u64
 
 impl<'a> SharedMonth<'a> {
     // The month that follows so many.
-    fn after(files: ReadyFiles<'a>, done: u64) -> SharedMonth<'a>
+    pub fn after(files: ReadyFiles<'a>, done: u64) -> SharedMonth<'a>
         requires { done < last_month }
         ensures files { result.files ≡ files.entry }
         ensures done { result.done ≡ done }
@@ -70,7 +70,7 @@ impl<'a> SharedMonth<'a> {
 
     // A month more of a row's course: a skipped or refused row rests.
     #[tactic(auto, unfolding(crate::specs::Internal::course_by))]
-    fn row_course(&self, start: &Result<Option<RunningCard>, u32>, course: &Course) -> Course
+    pub fn row_course(&self, start: &Result<Option<RunningCard>, u32>, course: &Course) -> Course
         ensures { course_in course.now ≡ course_by steps_a_day self.now.files.scenario.now self.now.files.table.now (start_read start.now) self.now.done → course_in result ≡ course_by steps_a_day self.now.files.scenario.now self.now.files.table.now (start_read start.now) (self.now.done + 1) }
     {
         match start {
@@ -78,19 +78,4 @@ impl<'a> SharedMonth<'a> {
             Ok(None) | Err(_) => *course,
         }
     }
-}
-
-// The courses of the rows of a roll: all to a month, whose exposure and row they share, before any goes on to the next.
-pub fn courses_of(files: ReadyFiles, roll: &Roll) -> [Course; GROUP_ROWS]
-    ensures { CoursesRun steps_a_day files.entry.scenario.now files.entry.table.now roll.now.words (min roll.now.count rows_a_group) result }
-{
-    let birth = files.of_yard().course_at_birth();
-    let mut courses = [birth; GROUP_ROWS];
-    for done in 0..last_month(roll) {
-        let month = SharedMonth::after(files, done);
-        for i in 0..roll.rows() {
-            courses[i] = month.row_course(&roll.start_at(i), &courses[i]);
-        }
-    }
-    courses
 }

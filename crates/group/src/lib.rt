@@ -19,11 +19,12 @@ use cardsite::RunningCard;
 use child::courses::Course;
 use files::CallFiles;
 use given::{GroupAnswers, RowAnswer};
+use month::SharedMonth;
 use roll::{GROUP_ROWS, Roll};
 use survey::ready::ReadyFiles;
 
 pub mod answers; // answers.rt: the answers in words
-mod courses; // courses.rt: the courses of its rows, month by month
+mod courses; // courses.rt: a month of a row's course
 pub mod given; // given.rt: what its rows answer
 mod month; // month.rt: what all rows share in a month
 
@@ -46,14 +47,22 @@ fn answer_of(start: &Result<Option<RunningCard>, u32>, course: &Course) -> RowAn
     }
 }
 
-// What the rows of a roll answer over accepted files.
+// What the rows of a roll answer over accepted files: all are run to a month, whose exposure and row they share, before any goes on to the next. The
+// courses stand here alone, since a list of them that is handed out would lie on the stack twice.
 fn row_answers(files: ReadyFiles, roll: &Roll) -> [RowAnswer; GROUP_ROWS]
     ensures { answers_read (min roll.now.count rows_a_group) result ≡ map (start_answer steps_a_day files.entry.scenario.now files.entry.table.now) (starts_in (min roll.now.count rows_a_group) roll.now.words) }
 {
-    let courses = courses::courses_of(files, roll);
+    let birth = files.of_yard().course_at_birth();
+    let mut courses = [birth; GROUP_ROWS];
+    for done in 0..courses::last_month(roll) {
+        let month = SharedMonth::after(files, done);
+        for i in 0..roll.rows() {
+            courses[i] = month.row_course(&roll.start_at(i), &courses[i]);
+        }
+    }
     let mut answers = [Ok(None); GROUP_ROWS];
-    for i in 0..roll.rows() {
-        answers[i] = answer_of(&roll.start_at(i), &courses[i]);
+    for row in 0..roll.rows() {
+        answers[row] = answer_of(&roll.start_at(row), &courses[row]);
     }
     answers
 }
