@@ -113,6 +113,10 @@ def file_of(call):
     return ROOT / "crates" / crate / "src" / ("/".join(modules or ["lib"]) + ".rt")
 
 
+# Methods of std's types that a program calls by the name of a method of ours.
+STD_METHODS = ["read"]
+
+
 def methods(lines, type_name):
     """The lines of a type's `impl` blocks, as they would stand outside of them."""
     found, inside = [], False
@@ -137,7 +141,8 @@ def methods_in(path):
             for file in files("crates/%s/src/**/*.rt" % crate):
                 own = methods(code(file), type_name)
                 for method in re.findall(r"^pub fn (\w+)", "\n".join(own), re.M):
-                    if re.search(r"(\.|\b%s::)%s\(" % (type_name, method), text):
+                    called = r"\b%s::%s\(" if method in STD_METHODS else r"(?:\.|\b%s::)%s\("
+                    if re.search(called % (type_name, method), text):
                         found.append(("%s::%s::%s" % (crate, type_name, method), file, contract(own, method)))
     return found
 
