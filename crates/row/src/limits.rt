@@ -101,7 +101,7 @@ impl Row {
     }
 }
 
-// Are the five rows from `first` within their limits?
+// Are the five rows from `first` within their limits? A list, as in `row_at`. Tried with `all` over the months, and the proof did not close.
 pub fn rows_fit(table: &[u32], first: usize) -> bool
     requires { numbers_a_row * (first + rows_a_block) ≤ length table.now }
     ensures { result ≡ rows_fit table.now first }
