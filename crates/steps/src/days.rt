@@ -1,4 +1,4 @@
-// The steps of a month, up to the first that is refused.
+// The steps of a month, up to the first that is refused. s and t are the letters of the definitions: the steps of a day, and its uptake.
 ghost use Rattle.std.specs.Prelude.{◌*◌};
 ghost use Rattle.state.specs.State.{month_uptake_limit};
 ghost use Rattle.steps.specs.Steps.{days_a_month, day_shares, days_shares};
