@@ -17,7 +17,7 @@ pub const BOOK_BLOCKS: usize = 17;
 
 pub const BOOK_BYTES: usize = BOOK_BLOCKS * BLOCK_BYTES;
 
-// Numbers of a block, and of the table of all blocks.
+// Numbers of a block, and of the table of all blocks. The table is one array, since C is given it as it is.
 const BLOCK_NUMBERS: usize = BLOCK_ROWS * ROW_NUMBERS;
 
 pub const TABLE_NUMBERS: usize = BOOK_BLOCKS * BLOCK_NUMBERS;
@@ -34,7 +34,7 @@ fn book_form(n: u32) -> Form
 }
 
 // Decodes block n of a book into its part of the table. No other function decodes a block, and none but this raises the number of decodes: by one,
-// whether the block is refused or not.
+// whether the block is refused or not. The number is lent beside the table and is no part of the answer, since a refusal tells it too.
 fn decode_block(
     book: &[u8],
     n: usize,

@@ -17,6 +17,7 @@ use Rattle.child.specs.Answers.{BirthAnswer, MonthAnswer}
 use Rattle.std.specs.Prelude.{Ok, Err}
 use Rattle.refusal.specs.declared.Refusal.{Refusal}
 use Rattle.refusal.specs.Refusal.{number_of}
+use Rattle.refusal.proofs.Numbers.{some_number}
 use Rattle.state.specs.State.{month_uptake_limit, state_refusal}
 use Rattle.steps.specs.Steps.{steps_a_day, days_a_month, days_shares}
 use Rattle.child.specs.Birth.{accepted_birth, refused_birth, birth_answer}
@@ -27,7 +28,6 @@ use Rattle.uptake.specs.Age.{age_of}
 use Rattle.uptake.specs.Laws.{day_limit}
 use Rattle.uptake.proofs.UptakeBounds.{age_law}
 use Rattle.steps.specs.Internal.{Steppable, ReachedBy}
-use Rattle.steps.proofs.Loops.{refusal_some}
 use Rattle.child.specs.Decoded.{Decoded}
 use Rattle.child.specs.Internal.{stepped_month, MonthLimits, MonthGiven, exposed_month, given_month, month_from}
 use Rattle.state.proofs.SoundState.{passed_sound, passed_before}
@@ -80,7 +80,7 @@ module _ (s : ℕ) (rates : State → Rates) (a : State) (row : Row) (t : ℕ) w
   pub stepped_refused : (e : Refusal) → ReachedBy rates a (days_shares s t days_a_month) (days_a_month * t) (Err e)
       → refused_month (number_of e) a ≡ stepped_month s rates a row t
   unfolding stepped_month
-  stepped_refused e r = rw (← r.refused) (refused_answer (number_of e) a _ (refusal_some e))
+  stepped_refused e r = rw (← r.refused) (refused_answer (number_of e) a _ (some_number e))
 
   pub stepped_accepted : (b : State) → ReachedBy rates a (days_shares s t days_a_month) (days_a_month * t) (Ok b)
       → accepted_month a b row ≡ stepped_month s rates a row t

@@ -15,9 +15,9 @@ pub fn diets_of(figures: &FoodsFigures) -> [u64; AGES]
     ensures { result ≡ diets_of figures.now.figures }
 {
     let mut diets = [0u64; AGES];
-    for age in 0..AGES {
+    for (age, diet) in diets.iter_mut().enumerate() {
         let eaten = Eaten { figures, age };
-        diets[age] = eaten.diet();
+        *diet = eaten.diet();
     }
     diets
 }

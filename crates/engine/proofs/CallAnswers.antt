@@ -10,7 +10,7 @@ use Rattle.numbers.specs.Choice.{unless}
 use Rattle.numbers.proofs.Refusals.{or_else_first, or_else-last, answer_refused}
 use Rattle.refusal.specs.declared.Refusal.{Refusal}
 use Rattle.refusal.specs.Refusal.{number_of}
-use Rattle.block.proofs.RefusalNumbers.{some_number}
+use Rattle.refusal.proofs.Numbers.{some_number}
 use Rattle.row.specs.Row.{last_month, row_of}
 use Rattle.kinetics.specs.declared.State.{State}
 use Rattle.state.specs.State.{zero_state}

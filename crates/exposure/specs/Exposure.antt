@@ -7,10 +7,6 @@ use Rattle.site.specs.declared.Scenario.{Scenario}
 use Rattle.site.specs.Fields.{at, by_age, single, air_group, soil_group, dust_group, alternate_group, constant_at, absorbed_at, first_draw_share_in, fountain_share_in, saturation_in}
 use Rattle.exposure.specs.declared.Exposure.{Exposure}
 
--- five fields from a place on
-abbrev pub five_from : List ℕ → ℕ → List ℕ
-five_from fields place = at fields place ∷ at fields (place + 1) ∷ at fields (place + 2) ∷ at fields (place + 3) ∷ at fields (place + 4) ∷ []
-
 -- the percentages of the five eaten media, diet, water, dust, soil, alternate: five single fields from k
 abbrev pub percentages_from : List ℕ → ℕ → List ℕ
 percentages_from fields k = single fields k ∷ single fields (k + 1) ∷ single fields (k + 2) ∷ single fields (k + 3) ∷ single fields (k + 4) ∷ []

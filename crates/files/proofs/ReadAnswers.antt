@@ -8,7 +8,7 @@ use Rattle.numbers.specs.Choice.{or_else, first_of}
 use Rattle.numbers.proofs.Refusals.{or_else_first, or_else-last, answer_refused}
 use Rattle.refusal.specs.declared.Refusal.{Refusal}
 use Rattle.refusal.specs.Refusal.{number_of}
-use Rattle.block.proofs.RefusalNumbers.{some_number}
+use Rattle.refusal.proofs.Numbers.{some_number}
 use Rattle.site.specs.declared.Scenario.{Scenario}
 use Rattle.site.specs.Site.{site_refusal}
 use Rattle.book.specs.Book.{book_refusal, book_decodes}

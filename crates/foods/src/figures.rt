@@ -9,13 +9,14 @@ ghost use Rattle.foods.specs.Limits.{FoodsLimits};
 use super::places;
 use super::places::{FIGURES, Food, LocalFood};
 
-// The 128 figures in a row, each within its limit.
+// The 128 figures in a row, each within its limit. One array and not a field for each kind, since C is given the row as it is.
 #[derive(Clone, Copy, Debug, PartialEq, Eq)]
 pub struct FoodsFigures {
     pub figures: [u32; FIGURES],
     pub ghost within: { FoodsLimits figures },
 }
 
+// Each reader has its own bound: one method that reads from a place would promise none of them.
 impl FoodsFigures {
     // The grams of a food a day at an age.
     pub fn grams_at(&self, age: usize, food: Food) -> u64
@@ -33,13 +34,14 @@ impl FoodsFigures {
         self.figures[places::LEADS_FROM + food.place()] as u64
     }
 
-    // The share of a local food, and its lead.
+    // The share of a local food.
     pub fn share_of(&self, local: LocalFood) -> u64
         ensures { Is (share_of self.now.figures (local_place local)) most_share result }
     {
         self.figures[places::SHARES_FROM + local.place()] as u64
     }
 
+    // The lead of a local food.
     pub fn local_lead_of(&self, local: LocalFood) -> u64
         ensures { Is (local_lead_of self.now.figures (local_place local)) most_lead result }
     {

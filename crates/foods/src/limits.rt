@@ -20,10 +20,10 @@ const LEAD_MOST: u32 = 1_000_000; // pg/g
 pub fn shares_fit(figures: &[u32; FIGURES]) -> bool
     ensures { result ≡ shares_fit figures.now }
 {
-    let fish = figures[places::SHARES_FROM + LocalFood::Fish as usize];
-    let game = figures[places::SHARES_FROM + LocalFood::Game as usize];
-    let vegetable = figures[places::SHARES_FROM + LocalFood::Vegetable as usize];
-    let fruit = figures[places::SHARES_FROM + LocalFood::Fruit as usize];
+    let fish = figures[places::SHARES_FROM + LocalFood::Fish.place()];
+    let game = figures[places::SHARES_FROM + LocalFood::Game.place()];
+    let vegetable = figures[places::SHARES_FROM + LocalFood::Vegetable.place()];
+    let fruit = figures[places::SHARES_FROM + LocalFood::Fruit.place()];
     let caught = fish as u64 + game as u64;
     caught <= CAUGHT_MOST && vegetable <= SHARE_MOST && fruit <= SHARE_MOST
 }

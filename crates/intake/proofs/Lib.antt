@@ -1,3 +1,2 @@
 pub mod Fits
 pub mod Refusal9
-pub mod Refused

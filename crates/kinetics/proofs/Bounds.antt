@@ -33,10 +33,6 @@ sum_front (suc n) f i h =
 half_le : (a b : ℕ) {e : ℕ} → 2 * b ≤ e → 0 < e → 2 * (a * b / e) ≤ a
 half_le a b {e} h pos = le_of_mul-le-mul_right (omega (arith, div-mul-le_self (a * b) e, mul-le-mul_left a h)) pos
 
--- what of ai returns within the step is at most ai
-pub returning_le : (r : Rates) (i : ℕ) {e : ℕ} → e ≡ compartment_divisor r i → out r i * back r i / e ≤ out r i
-returning_le r i h = rw h (part_le (out r i) (back_le r i) (compartment_divisor_pos r i))
-
 module _ {r : Rates} (lim : RateLimits r) {i : ℕ} (l : i < 6) where
   back_le_unit : back r i ≤ unit
   back_le_unit = omega (arith, lim.each i l)

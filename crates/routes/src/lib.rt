@@ -31,7 +31,7 @@ impl RouteSums {
 }
 
 // The sums of an exposure's day, by the body weights of the month and of the saturation's; zeros if 9 refuses its intakes.
-#[tactic(auto, using(crate::proofs::MonthSums::exposed_some, crate::proofs::MonthSums::exposed_none, intake::proofs::Refused::number_some))]
+#[tactic(auto, using(crate::proofs::MonthSums::exposed_some, crate::proofs::MonthSums::exposed_none, refusal::proofs::Numbers::some_number))]
 fn exposed_sums(limited: &LimitedExposure, weights: BodyWeights) -> RouteSums
     ensures { result ≡ exposed_sums limited.now.exposure weights.month weights.month24 }
 {

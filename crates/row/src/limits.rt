@@ -25,7 +25,7 @@ const OUT_MOST: u64 = 64 * UNIT;
 const EXIT_MOST: u64 = UNIT / 2;
 
 impl Rates {
-    // The rate at which compartment i leaves the body.
+    // The rate at which compartment i leaves the body: liver, 1, and other, 3, do. By their places, as the definition has them.
     pub fn exit(&self, i: usize) -> u64
         ensures { result ≡ exit self.now i }
     {
@@ -36,7 +36,7 @@ impl Rates {
         }
     }
 
-    // Is each b + c at most D?
+    // Is each b + c at most D? Tried with `all` over the list and its places, and the proof did not close.
     fn returns_fit(&self) -> bool
         ensures { result ≡ returns_fit self.now }
     {
@@ -101,7 +101,7 @@ impl Row {
     }
 }
 
-// Are the five rows from `first` within their limits?
+// Are the five rows from `first` within their limits? A list, as in `row_at`. Tried with `all` over the months, and the proof did not close.
 pub fn rows_fit(table: &[u32], first: usize) -> bool
     requires { numbers_a_row * (first + rows_a_block) ≤ length table.now }
     ensures { result ≡ rows_fit table.now first }

@@ -1,21 +1,8 @@
 // A month's row of a table of rows of 23 numbers.
 ghost use Rattle.std.specs.Prelude.{◌≡◌, ◌+◌, ◌*◌, ◌≤◌, length};
-ghost use Rattle.row.specs.Row.{numbers_a_row, row_numbers, row_from, row_of};
+ghost use Rattle.row.specs.Row.{numbers_a_row, row_from, row_of};
 
 use super::{Rates, Row, places};
-
-// The numbers of row `month`, in 64 bits.
-fn row_numbers(table: &[u32], month: usize) -> [u64; places::ROW_NUMBERS]
-    requires { numbers_a_row * month + numbers_a_row ≤ length table.now }
-    ensures { result ≡ row_numbers table.now month }
-{
-    let first = places::ROW_NUMBERS * month;
-    let mut numbers = [0u64; places::ROW_NUMBERS];
-    for k in 0..places::ROW_NUMBERS {
-        numbers[k] = u64::from(table[first + k]);
-    }
-    numbers
-}
 
 // The row of 23 numbers.
 impl From<[u64; places::ROW_NUMBERS]> for Row {
@@ -58,10 +45,12 @@ impl From<[u64; places::ROW_NUMBERS]> for Row {
     }
 }
 
-// Row `month` of a table.
+// Row `month` of a table. A list and not an array, whose length is the book's, a crate above this one.
+#[tactic(auto, unfolding(crate::specs::Row::row_of, crate::specs::Row::row_numbers))]
 pub fn row_at(table: &[u32], month: usize) -> Row
     requires { numbers_a_row * month + numbers_a_row ≤ length table.now }
     ensures { result ≡ row_of table.now month }
 {
-    Row::from(row_numbers(table, month))
+    let numbers = numbers::widened(table, places::ROW_NUMBERS * month);
+    Row::from(numbers)
 }

@@ -2,7 +2,7 @@
 #![tactic(auto)]
 
 ghost use Rattle.std.specs.Prelude.{◌≡◌};
-ghost use Rattle.site.specs.Scenario.{dust_source_of, water_source_of, diets_in, scenario_of};
+ghost use Rattle.site.specs.Scenario.{dust_source_of, water_source_of, scenario_of};
 ghost use Rattle.site.specs.Site.{read_in, read_site};
 
 use block::read::Fields;
@@ -37,7 +37,7 @@ pub enum WaterSource {
     ThreeSources,
 }
 
-// A site file's fields, with the diet of each age and the two modes decoded.
+// A site file's fields, with the diet of each age and the two modes decoded. The fields are one array, since C is given them as they are.
 #[derive(Clone, Copy, Debug, PartialEq, Eq)]
 pub struct Scenario {
     pub fields: [u32; FIELDS],
@@ -71,24 +71,13 @@ impl From<u32> for WaterSource {
     }
 }
 
-// The diet of each age, as the fields give it.
-fn diets_in(fields: &[u32; FIELDS]) -> [u64; AGES]
-    ensures { result ≡ diets_in fields.now }
-{
-    let mut diets = [0u64; AGES];
-    for age in 0..AGES {
-        diets[age] = fields[places::DIET + age] as u64;
-    }
-    diets
-}
-
 // The scenario of a site file's fields.
 #[tactic(auto, unfolding(crate::specs::Scenario::scenario_of))]
 pub fn scenario_of(fields: [u32; FIELDS]) -> Scenario
     ensures { result ≡ scenario_of fields }
 {
     Scenario {
-        diets: diets_in(&fields),
+        diets: numbers::widened(&fields, places::DIET),
         dust_source: DustSource::from(fields[places::DUST_MODE]),
         water_source: WaterSource::from(fields[places::WATER_MODE]),
         fields,

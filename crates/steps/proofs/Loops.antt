@@ -20,30 +20,13 @@ use Rattle.steps.proofs.ShareSum.{share_law}
 use Rattle.margin.proofs.StepLaws.{step_law}
 use Rattle.std.specs.Prelude.{Ok, Err}
 use Rattle.refusal.specs.declared.Refusal.{Refusal}
-use Rattle.refusal.specs.declared.Refusal.TheVariants.{WrongLength, WrongListLength, WrongCheck, WrongEdition, WrongNumber, ReservedNotZero, FieldOutsideLimits, RowOutsideLimits, IntakeTooLarge, SharesOver, AmountOver, WrongRow, NoState, LastMonthDone, BurdenTooLarge}
+use Rattle.refusal.specs.declared.Refusal.TheVariants.{BurdenTooLarge}
 use Rattle.refusal.specs.Refusal.{number_of}
+use Rattle.refusal.proofs.Numbers.{some_number}
 use Rattle.state.specs.State.{ledger_sum, month_uptake_limit, burden_refusal}
 use Rattle.steps.specs.Steps.{days_a_month, shares_from, day_shares, days_shares, last_from, steps_refusal}
 use Rattle.steps.specs.Internal.{Steppable, ReachedBy}
 use Rattle.steps.proofs.Shares.{sum_of, day_total, days_total}
-
--- no refusal has the number 0
-pub refusal_some : (e : Refusal) → number_of e ≡ 0 → ⊥
-refusal_some WrongLength h = omega arith
-refusal_some WrongListLength h = omega arith
-refusal_some WrongCheck h = omega arith
-refusal_some WrongEdition h = omega arith
-refusal_some WrongNumber h = omega arith
-refusal_some ReservedNotZero h = omega arith
-refusal_some FieldOutsideLimits h = omega arith
-refusal_some RowOutsideLimits h = omega arith
-refusal_some IntakeTooLarge h = omega arith
-refusal_some SharesOver h = omega arith
-refusal_some AmountOver h = omega arith
-refusal_some WrongRow h = omega arith
-refusal_some NoState h = omega arith
-refusal_some LastMonthDone h = omega arith
-refusal_some BurdenTooLarge h = omega arith
 
 -- no lead is lost or made by a step
 pub step_conserves : (r : Rates) (a : State) (u : ℕ) → RateLimits r → burden (next r a u).lead + exit_sum (exits r a.lead u) ≡ burden a.lead + u
@@ -116,7 +99,7 @@ module _ (rates : State → Rates) where
         ∙ ap (λ (n : ℕ). or_else n (steps_refusal rates (last_from rates b vs) ws)) (sym e)
 
     turn_refused : {e : Refusal} {t : ℕ} → ReachedBy rates b vs t (Err e) → (n : ℕ) → ReachedBy rates a us n (Err e)
-    turn_refused {e} turn n = refused_steps (sym (turn_refusal turn.refused ∙ or_else_first (number_of e) _ (refusal_some e)))
+    turn_refused {e} turn n = refused_steps (sym (turn_refusal turn.refused ∙ or_else_first (number_of e) _ (some_number e)))
 
     turn_next : {c : State} {t : ℕ} → ReachedBy rates b vs t (Ok c) → sum_of vs ≡ t → Ahead a us c ws
     turn_next turn e =

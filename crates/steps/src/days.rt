@@ -1,4 +1,4 @@
-// The steps of a month, up to the first that is refused.
+// The steps of a month, up to the first that is refused. s and t are the letters of the definitions: the steps of a day, and its uptake.
 ghost use Rattle.std.specs.Prelude.{◌*◌};
 ghost use Rattle.state.specs.State.{month_uptake_limit};
 ghost use Rattle.steps.specs.Steps.{days_a_month, day_shares, days_shares};
@@ -35,7 +35,7 @@ pub fn days(rates: &MonthRates, state: &State, s: u64, t: u64) -> Result<State, 
     ensures { ReachedBy (λ b. rates.now.rates) state.now (days_shares s t days_a_month) (days_a_month * t) result }
 {
     let mut here = *state;
-    for d in 0..DAYS_A_MONTH {
+    for _ in 0..DAYS_A_MONTH {
         here = day(rates, &here, s, t)?;
     }
     Ok(here)

@@ -7,7 +7,7 @@ use Rattle.std.proofs.Common.{Result, Ok, Err}
 use Rattle.numbers.proofs.Refusals.{answer_refused}
 use Rattle.refusal.specs.declared.Refusal.{Refusal}
 use Rattle.refusal.specs.Refusal.{number_of}
-use Rattle.block.proofs.RefusalNumbers.{some_number}
+use Rattle.refusal.proofs.Numbers.{some_number}
 use Rattle.site.specs.declared.Scenario.{Scenario}
 use Rattle.site.proofs.FieldsWithin.{accepted_fits, mother_accepted}
 use Rattle.exposure.proofs.ExposureWithin.{exposure_within}

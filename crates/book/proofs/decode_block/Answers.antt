@@ -2,7 +2,7 @@
 use Rattle.std.proofs.Common.{◌≡◌, sym, ap, ◌∙◌, Bool}
 use Rattle.std.proofs.lemmas.Result.{err_from_is_err_and}
 use Rattle.numbers.specs.Choice.{unless}
-use Rattle.block.proofs.RefusalNumbers.{some_number}
+use Rattle.refusal.proofs.Numbers.{some_number}
 use Rattle.block.specs.Block.{block_refusal}
 use Rattle.book.specs.Internal.{BlockDecoded}
 use Rattle.book.proofs.Decode.{stored, refused_by_header, checked_rows}

@@ -1,7 +1,7 @@
 -- `book::decode_blocks` meets its contract: at block n the table has the numbers of the blocks before, and each of these is counted.
 use Rattle.std.proofs.Common.{refl}
 use Rattle.std.proofs.lemmas.Result.{err_from_is_err_and}
-use Rattle.block.proofs.RefusalNumbers.{some_number}
+use Rattle.refusal.proofs.Numbers.{some_number}
 use Rattle.book.proofs.Decode.{at_first, at_refused, at_next, at_end}
 use Rattle.book.proofs.decode_blocks.Goals as goal
 

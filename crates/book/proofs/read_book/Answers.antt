@@ -1,6 +1,6 @@
 -- `book::read_book` meets its contract: each way out is one case of `book_refusal`, `book_decodes` and `book_table`.
 use Rattle.std.proofs.Common.{sym, ◌∙◌}
-use Rattle.block.proofs.RefusalNumbers.{err_number, ok_number}
+use Rattle.refusal.proofs.Numbers.{err_number, ok_number}
 use Rattle.book.proofs.ReadAnswers.{refused_length, refused_block, accepted_book}
 use Rattle.book.proofs.read_book.Goals as goal
 

@@ -5,4 +5,4 @@ use Rattle.diet.specs.Diet.{diet_at}
 use Rattle.diet.proofs.diets_of.Given as goal
 
 abbrev pub invariant-loop-age : goal.invariant-loop-age
-invariant-loop-age l = Filled (diet_at l.figures.figures) ages l.diets l.age
+invariant-loop-age l = Filled (diet_at l.figures.figures) ages l.diet-items l.age

@@ -1,7 +1,7 @@
 -- `engine::birth` meets its contract: refused by its files, or the birth of a child of accepted files.
 use mathlib.Core.Path.{refl, ◌∙◌}
 use Rattle.std.proofs.lemmas.Result.{err_from_is_err_and}
-use Rattle.block.proofs.RefusalNumbers.{some_number}
+use Rattle.refusal.proofs.Numbers.{some_number}
 use Rattle.engine.proofs.FilesDecoded.{files_read_decoded}
 use Rattle.engine.proofs.CallAnswers.{birth_files_refused, birth_files_read}
 use Rattle.engine.proofs.birth.Goals as goal

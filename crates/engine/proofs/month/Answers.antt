@@ -1,7 +1,7 @@
 -- `engine::month` meets its contract: refused by its files, or a month of the child of accepted files.
 use mathlib.Core.Path.{refl, ◌∙◌}
 use Rattle.std.proofs.lemmas.Result.{err_from_is_err_and}
-use Rattle.block.proofs.RefusalNumbers.{some_number}
+use Rattle.refusal.proofs.Numbers.{some_number}
 use Rattle.steps.specs.Steps.{steps_a_day}
 use Rattle.engine.proofs.FilesDecoded.{files_read_decoded}
 use Rattle.engine.proofs.CallAnswers.{month_files_refused, month_files_read}

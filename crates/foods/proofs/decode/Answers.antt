@@ -2,7 +2,7 @@
 use Rattle.std.proofs.Common.{◌≡◌, true}
 use Rattle.std.proofs.lemmas.Result.{err_from_is_err_and}
 use Rattle.numbers.specs.Choice.{unless}
-use Rattle.block.proofs.RefusalNumbers.{some_number}
+use Rattle.refusal.proofs.Numbers.{some_number}
 use Rattle.foods.specs.Foods.{figures_of, foods_refusal}
 use Rattle.foods.proofs.ReadAnswers.{stored, stored_figures, length_refused, header_refused, refusal_by_tests, accepted_block}
 use Rattle.foods.proofs.decode.Goals as goal

@@ -1,7 +1,7 @@
 -- `foods::read_figures` meets its contract: zeros if the block is refused.
 use Rattle.std.proofs.Common.{sym, ap, ◌∙◌, replicate, ℕ}
 use Rattle.numbers.proofs.Refusals.{answer_refused}
-use Rattle.block.proofs.RefusalNumbers.{some_number}
+use Rattle.refusal.proofs.Numbers.{some_number}
 use Rattle.foods.specs.Foods.{figures_of, blank_figures, foods_refusal, foods_figures}
 use Rattle.foods.proofs.read_figures.Goals as goal
 

@@ -1,6 +1,6 @@
 -- `group::answers_of` meets its contract: the files are refused, or each row answers by its course.
 use Rattle.std.proofs.Common.{arith, refl, ◌∙◌}
-use Rattle.block.proofs.RefusalNumbers.{some_number}
+use Rattle.refusal.proofs.Numbers.{some_number}
 use Rattle.steps.specs.Steps.{steps_a_day}
 use Rattle.roll.specs.Words.{rows_a_group}
 use Rattle.survey.proofs.RowAnswers.{files_read_ready}

@@ -1,7 +1,7 @@
 -- `site::read_site` meets its contract: each way out is one case of `read_site`.
 use Rattle.std.proofs.Common.{refl}
 use Rattle.std.proofs.lemmas.Result.{err_from_is_err_and}
-use Rattle.block.proofs.RefusalNumbers.{some_number}
+use Rattle.refusal.proofs.Numbers.{some_number}
 use Rattle.site.proofs.ReadAnswers.{read_length, read_block, read_unfit, read_scenario}
 use Rattle.site.proofs.read_site.Goals as goal
 

@@ -1,7 +1,7 @@
 -- `survey::kept_answer` meets its contract: the files' refusal, or the answer over them.
 use Rattle.std.proofs.Common.{refl, ◌∙◌}
 use Rattle.std.proofs.lemmas.Result.{err_from_is_err_and}
-use Rattle.block.proofs.RefusalNumbers.{some_number}
+use Rattle.refusal.proofs.Numbers.{some_number}
 use Rattle.steps.specs.Steps.{steps_a_day}
 use Rattle.survey.proofs.RowAnswers.{files_refused, files_read_ready, files_answered}
 use Rattle.survey.proofs.kept_answer.Goals as goal

@@ -4,16 +4,16 @@ use Rattle.steps.proofs.Loops.{day_steppable, month_refused, month_next, month_e
 use Rattle.steps.proofs.days.days.Goals as goal
 
 pub day-requires : goal.day-requires
-day-requires c = day_steppable c.requires c.loop-d.d c.loop-d.invariant c.loop-d-test.true
+day-requires c = day_steppable c.requires c.loop.counter c.loop.invariant c.loop-test.true
 
 pub returns-in_err-here : goal.returns-in_err-here
 returns-in_err-here c =
     let refused : c.from_residual.result ≡ Err c.in_err-here.field-0.0 = search rules in
-    rw refused (month_refused c.requires c.loop-d.d c.loop-d.invariant c.loop-d-test.true (rw c.in_err-here.was at c.day.ensures))
+    rw refused (month_refused c.requires c.loop.counter c.loop.invariant c.loop-test.true (rw c.in_err-here.was at c.day.ensures))
 
-pub loop-d-preserved : goal.loop-d-preserved
-loop-d-preserved c =
-    month_next c.requires c.loop-d.d c.loop-d.invariant c.loop-d-test.true (rw c.in_ok-here.was at c.day.ensures)
+pub loop-preserved : goal.loop-preserved
+loop-preserved c =
+    month_next c.requires c.loop.counter c.loop.invariant c.loop-test.true (rw c.in_ok-here.was at c.day.ensures)
 
 pub returns : goal.returns
-returns c = month_end_lem c.requires c.loop-d.d c.loop-d.invariant c.loop-d-test.false
+returns c = month_end_lem c.requires c.loop.counter c.loop.invariant c.loop-test.false

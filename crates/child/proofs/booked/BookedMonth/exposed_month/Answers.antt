@@ -1,7 +1,7 @@
 -- `child::booked::BookedMonth::exposed_month` meets its contract: refused by its intakes, or its steps at its row with its uptake.
 use mathlib.Core.Path.{◌≡◌, sym, ap, ◌∙◌}
 use Rattle.std.proofs.lemmas.Result.{err_from_is_err_and}
-use Rattle.block.proofs.RefusalNumbers.{some_number}
+use Rattle.refusal.proofs.Numbers.{some_number}
 use Rattle.exposure.specs.declared.limited.LimitedExposure.{LimitedExposure}
 use Rattle.uptake.specs.Uptake.{day_uptake}
 use Rattle.steps.specs.Steps.{steps_a_day}

@@ -1,7 +1,7 @@
 -- `child::booked::BookedMonth::given_month` meets its contract: refused by its state, or the month by its exposure.
 use mathlib.Core.Path.{sym, ◌∙◌}
 use Rattle.std.proofs.lemmas.Result.{err_from_is_err_and}
-use Rattle.block.proofs.RefusalNumbers.{some_number}
+use Rattle.refusal.proofs.Numbers.{some_number}
 use Rattle.steps.specs.Steps.{steps_a_day}
 use Rattle.child.proofs.MonthAnswers.{given_refused, given_passed}
 use Rattle.child.proofs.booked.BookedMonth.given_month.Goals as goal

@@ -1,6 +1,6 @@
 -- `child::courses::Course::next_month` meets its contract: the course as it is, or what the month answers.
 use mathlib.Core.Path.{refl, ◌∙◌}
-use Rattle.block.proofs.RefusalNumbers.{some_number}
+use Rattle.refusal.proofs.Numbers.{some_number}
 use Rattle.steps.specs.Steps.{steps_a_day}
 use Rattle.child.proofs.CourseSteps.{course_kept, course_month}
 use Rattle.child.proofs.courses.Course.next_month.Goals as goal

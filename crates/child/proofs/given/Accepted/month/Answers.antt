@@ -2,7 +2,7 @@
 use mathlib.Core.Path.{sym, ◌∙◌}
 use native.Mathlib.Omega.{arith}
 use Rattle.std.proofs.lemmas.Result.{err_from_is_err_and}
-use Rattle.block.proofs.RefusalNumbers.{some_number}
+use Rattle.refusal.proofs.Numbers.{some_number}
 use Rattle.steps.specs.Steps.{steps_a_day}
 use Rattle.child.specs.Internal.{MonthGiven}
 use Rattle.child.proofs.MonthAnswers.{month_after_most, child_refused, child_passed, exposed_from}

@@ -1,6 +1,6 @@
 -- `child::given::Accepted::months` meets its contract: the whole run is the figures written so far and the months from the state here.
 use mathlib.Core.Path.{refl}
-use Rattle.block.proofs.RefusalNumbers.{some_number}
+use Rattle.refusal.proofs.Numbers.{some_number}
 use Rattle.steps.specs.Steps.{steps_a_day}
 use Rattle.child.specs.Internal.{child_run}
 use Rattle.child.proofs.RunLoop.{run_stop, run_next, run_end, child_kept}
