@@ -47,7 +47,8 @@ fn answer_of(start: &RowStart, course: &Course) -> RowAnswer
 }
 
 // What the rows of a roll answer over accepted files: all are run to a month, whose exposure and row they share, before any goes on to the next. The
-// courses stand here alone, since a list of them that is handed out would lie on the stack twice.
+// courses stand here alone, since a list of them that is handed out would lie on the stack twice. The loops go by a row's number: the rows that there are
+// may be fewer than a list's places.
 fn row_answers(files: ReadyFiles, roll: &Roll) -> [RowAnswer; GROUP_ROWS]
     ensures { answers_read (min roll.now.count rows_a_group) result ≡ map (start_answer steps_a_day files.entry.scenario.now files.entry.table.now) (starts_in (min roll.now.count rows_a_group) roll.now.words) }
 {

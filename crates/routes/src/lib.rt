@@ -71,8 +71,8 @@ pub fn monthly_sums(files: &CallFiles) -> [RouteSums; MONTHS]
         scenario: &scenario,
         table: &table,
     };
-    for done in 0..MONTHS {
-        sums[done] = sums_in(&accepted, done as u64 + 1);
+    for (done, sum) in sums.iter_mut().enumerate() {
+        *sum = sums_in(&accepted, done as u64 + 1);
     }
     sums
 }
