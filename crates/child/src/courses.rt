@@ -81,7 +81,7 @@ impl Accepted<'_> {
         ensures { course_in result ≡ course_at steps_a_day self.now.scenario.now self.now.table.now until }
     {
         let mut here = self.course_at_birth();
-        for done in 0..until {
+        for _ in 0..until {
             here = here.next_month(self);
         }
         here

@@ -30,10 +30,10 @@ impl Accepted<'_> {
         ensures blood_after { blood.new ≡ run_list (child_run steps_a_day state.now self.now.scenario.now self.now.table.now) blood.old }
     {
         let mut here = *state;
-        for done in 0..MONTHS {
+        for (done, place) in blood.iter_mut().enumerate() {
             match self.month(&here) {
                 Ok(end) => {
-                    blood[done] = end.blood;
+                    *place = end.blood;
                     here = end.state;
                 }
                 Err(refusal) => {

@@ -1,5 +1,6 @@
 // The engine: birth, the month call and the run, on site files, foods blocks and rate books of any length and content.
-// Each call reads its files by the same three lines: the child borrows what they read, so no other function can hand it out.
+// Each call reads its files by the same lines, as `survey`, `group` and `routes` do: the child borrows what they read, so no other function can hand it
+// out.
 #![tactic(auto)]
 
 ghost use Rattle.std.specs.Prelude.{◌≡◌, length};

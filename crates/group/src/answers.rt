@@ -11,7 +11,8 @@ const ANSWER_WORDS: usize = 2;
 
 pub const WORDS: usize = GROUP_ROWS * ANSWER_WORDS;
 
-// What an answer's first word says of the second.
+// What an answer's first word says of the second. Beside the kinds of a row on a roll, which have the same numbers but say what becomes of it before it
+// is run: those have no figure, and are read back.
 #[derive(Clone, Copy, Debug, PartialEq, Eq)]
 enum Kind {
     Blood = 0,
@@ -30,7 +31,7 @@ fn words_of(answer: RowAnswer) -> [u32; ANSWER_WORDS]
     }
 }
 
-// Puts an answer's words into its place.
+// Puts an answer's words into its place: a part of the group's, which is a slice, so its length is asked for.
 fn put_answer(place: &mut [u32], answer: RowAnswer)
     requires { length place.old ≡ words_an_answer }
     ensures { place.new ≡ answer_words (answer_read answer) }

@@ -1,4 +1,4 @@
-// The courses of a group's rows, month by month.
+// How long the rows of a roll are run, and a month more of their courses.
 ghost use Rattle.std.specs.Prelude.{◌≡◌, ◌+◌, ◌<◌, min};
 ghost use Rattle.row.specs.Row.{last_month};
 ghost use Rattle.steps.specs.Steps.{steps_a_day};
@@ -12,11 +12,11 @@ use crate::month::SharedMonth;
 use cardsite::RunningCard;
 use child::courses::Course;
 use exposure::limited::LimitedExposure;
-use roll::Roll;
+use roll::{Roll, RowStart};
 use survey::ready::ReadyFiles;
 
 // How many months a row is run: up to its AGE, and none if it is skipped or refused.
-fn until(start: &Result<Option<RunningCard>, u32>) -> u64
+fn until(start: &RowStart) -> u64
     ensures { result ≡ until_of (start_read start.now) }
 {
     match start {
@@ -70,7 +70,7 @@ impl<'a> SharedMonth<'a> {
 
     // A month more of a row's course: a skipped or refused row rests.
     #[tactic(auto, unfolding(crate::specs::Internal::course_by))]
-    pub fn row_course(&self, start: &Result<Option<RunningCard>, u32>, course: &Course) -> Course
+    pub fn row_course(&self, start: &RowStart, course: &Course) -> Course
         ensures { course_in course.now ≡ course_by steps_a_day self.now.files.scenario.now self.now.files.table.now (start_read start.now) self.now.done → course_in result ≡ course_by steps_a_day self.now.files.scenario.now self.now.files.table.now (start_read start.now) (self.now.done + 1) }
     {
         match start {

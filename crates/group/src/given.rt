@@ -8,8 +8,9 @@ use roll::GROUP_ROWS;
 // row gave may say any.
 pub type RowAnswer = Result<Option<u32>, u32>;
 
-// The answers of a group's rows; what stands past them says nothing.
-#[derive(Clone, Copy, Debug, PartialEq, Eq)]
+// The answers of a group's rows, in a list of fixed length, since there is no heap. What stands past them says nothing, so there is no `PartialEq`, which
+// would compare it.
+#[derive(Clone, Copy, Debug)]
 pub struct GroupAnswers {
     pub rows: [RowAnswer; GROUP_ROWS],
     pub count: usize,

@@ -15,16 +15,15 @@ ghost use Rattle.group.specs.Internal.{end_answer};
 
 use answers::WORDS;
 use book::TABLE_NUMBERS;
-use cardsite::RunningCard;
 use child::courses::Course;
 use files::CallFiles;
 use given::{GroupAnswers, RowAnswer};
 use month::SharedMonth;
-use roll::{GROUP_ROWS, Roll};
+use roll::{GROUP_ROWS, Roll, RowStart};
 use survey::ready::ReadyFiles;
 
 pub mod answers; // answers.rt: the answers in words
-mod courses; // courses.rt: a month of a row's course
+mod courses; // courses.rt: how long a roll is run, and a month more of its rows' courses
 pub mod given; // given.rt: what its rows answer
 mod month; // month.rt: what all rows share in a month
 
@@ -37,7 +36,7 @@ pub struct GroupRead {
 }
 
 // What a row answers whose course is at its end.
-fn answer_of(start: &Result<Option<RunningCard>, u32>, course: &Course) -> RowAnswer
+fn answer_of(start: &RowStart, course: &Course) -> RowAnswer
     ensures { answer_read result ≡ end_answer (start_read start.now) (course_in course.now) }
 {
     match start {
@@ -48,7 +47,8 @@ fn answer_of(start: &Result<Option<RunningCard>, u32>, course: &Course) -> RowAn
 }
 
 // What the rows of a roll answer over accepted files: all are run to a month, whose exposure and row they share, before any goes on to the next. The
-// courses stand here alone, since a list of them that is handed out would lie on the stack twice.
+// courses stand here alone, since a list of them that is handed out would lie on the stack twice. The loops go by a row's number: the rows that there are
+// may be fewer than a list's places.
 fn row_answers(files: ReadyFiles, roll: &Roll) -> [RowAnswer; GROUP_ROWS]
     ensures { answers_read (min roll.now.count rows_a_group) result ≡ map (start_answer steps_a_day files.entry.scenario.now files.entry.table.now) (starts_in (min roll.now.count rows_a_group) roll.now.words) }
 {
@@ -67,7 +67,8 @@ fn row_answers(files: ReadyFiles, roll: &Roll) -> [RowAnswer; GROUP_ROWS]
     answers
 }
 
-// What the rows of a roll answer over these files, and how many blocks of the book were decoded.
+// What the rows of a roll answer over these files, and how many blocks of the book were decoded. Files are read here as in `engine`: what the struct
+// borrows stands in this function.
 pub fn answers_of(files: &CallFiles, roll: &Roll) -> GroupAnswers
     ensures rows { answers_read result.count result.rows ≡ roll_answers steps_a_day (files_in files.now) roll.now.count roll.now.words }
     ensures decodes { result.decodes ≡ files_decodes (files_in files.now) }

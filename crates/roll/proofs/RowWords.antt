@@ -2,12 +2,10 @@
 -- Assumes nothing.
 use Prim.Native.Nat.{ℕ, ◌≤◌, ◌<◌}
 use mathlib.Core.Path.{◌≡◌, refl, sym, ap, ◌∙◌}
-use mathlib.Core.Bool.{Bool, true, false, cond}
-use mathlib.Core.List.{List}
+use mathlib.Core.Bool.{false}
 use native.Mathlib.Omega.{arith}
 use borrow.Author.Tests.{ne_eqb, ltb-false}
 use lib.ListN.{length}
-use lib.Dec.{eqb}
 use Rattle.site.specs.Fields.{field_count, at, limits}
 use Rattle.site.proofs.FieldTests.{limit_small}
 use Rattle.std.specs.Prelude.{Option, None, Some}
@@ -95,14 +93,3 @@ unfolding card_words
 words_long (Runs c) = refl
 words_long Skipped = refl
 words_long (Refused n) = refl
-
--- a row that runs by its words is a card that runs
-running_words : (words : List ℕ) (c : Card) (zero one : Bool)
-    → cond zero (start_of (read.Accepted (card_in words))) (cond one Skipped (Refused (at words 1))) ≡ Runs c → Running c
-running_words words c true one e = runs_within (read.Accepted (card_in words)) c e
-running_words words c false true e = let z : ◌≡◌ {A = ℕ} 0 1 = cc in absurd (omega arith)
-running_words words c false false e = let z : ◌≡◌ {A = ℕ} 0 1 = cc in absurd (omega arith)
-
-pub start_running : (words : List ℕ) (c : Card) → start_in words ≡ Runs c → Running c
-unfolding start_in
-start_running words c e = running_words words c (eqb (at words 0) 0) (eqb (at words 0) 1) e

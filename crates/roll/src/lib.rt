@@ -19,9 +19,12 @@ pub const GROUP_ROWS: usize = 64;
 
 pub const ROLL_WORDS: usize = GROUP_ROWS * ROW_WORDS;
 
-// The rows on a roll, nine words for each: the laws speak of the words, and 64 cards would take four times their memory. The words behind the rows
-// are free.
-#[derive(Drop, Clone, Debug, PartialEq, Eq)]
+// What becomes of a row: no card where it is skipped, or the number that refuses it.
+pub type RowStart = Result<Option<RunningCard>, u32>;
+
+// The rows on a roll, nine words for each: the laws speak of the words, and 64 cards would take more than three times their memory. The words behind
+// the rows are free, so there is no `PartialEq`, which would compare them.
+#[derive(Drop, Clone, Debug)]
 pub struct Roll {
     pub words: [u32; ROLL_WORDS],
     pub count: usize, // 64 at most, and a greater one counts as 64
@@ -47,7 +50,7 @@ impl Roll {
 
     // What becomes of row i: no card where it is skipped. Words that no row gave are checked as a card is; a number among them may be any, so a
     // refusal is a number here.
-    pub fn start_at(&self, i: usize) -> Result<Option<RunningCard>, u32>
+    pub fn start_at(&self, i: usize) -> RowStart
         requires { i < rows_a_group }
         ensures { start_read result ≡ start_at self.now.words i }
     {

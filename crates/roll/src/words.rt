@@ -7,6 +7,7 @@ ghost use Rattle.roll.specs.Kind.{kind_in};
 ghost use Rattle.roll.specs.Read.{start_read};
 ghost use Rattle.roll.specs.Words.{words_a_row, gap_word, word_of, value_in, card_words, start_words, card_in, start_in};
 
+use crate::RowStart;
 use card::Card;
 use cardsite::RunningCard;
 use lines::RowText;
@@ -82,7 +83,7 @@ pub fn row_words(row: &RowText) -> [u32; ROW_WORDS]
     }
 }
 
-// The card that a row's words are.
+// The card that a row's words are: a part of the roll's, which is a slice, so each function here asks for its length.
 #[tactic(auto, unfolding(crate::specs::Words::card_in))]
 fn card_in(words: &[u32]) -> Card
     requires { length words.now ≡ words_a_row }
@@ -102,7 +103,7 @@ fn card_in(words: &[u32]) -> Card
 
 // What becomes of a row, by its words.
 #[tactic(auto, unfolding(crate::specs::Words::start_in))]
-pub fn start_in(words: &[u32]) -> Result<Option<RunningCard>, u32>
+pub fn start_in(words: &[u32]) -> RowStart
     requires { length words.now ≡ words_a_row }
     ensures { start_read result ≡ start_in words.now }
 {

@@ -42,7 +42,7 @@ pub record SumsStored (scenario : Scenario) (table : List ℕ) (sums : List Rout
 pub stored_none : (scenario : Scenario) (table : List ℕ) → SumsStored scenario table (replicate last_month no_sums) 0
 stored_none scenario table = record { long = length-replicate last_month no_sums; each = λ k l. absurd (omega arith) }
 
-pub stored_next : {scenario : Scenario} {table : List ℕ} {sums : List RouteSums} {done : ℕ} → SumsStored scenario table sums done → done < last_month
+pub stored_next : {scenario : Scenario} {table : List ℕ} {sums : List RouteSums} {done : ℕ} → SumsStored scenario table sums done → done < length sums
     → {x : RouteSums} → x ≡ sums_in scenario table (done + 1) → SumsStored scenario table (set sums done x) (done + 1)
 stored_next {scenario} {table} {sums} {done} s l {x} e =
     let here : x ≡ sums_in scenario table (suc done) = rw add-one at e in
@@ -51,7 +51,7 @@ stored_next {scenario} {table} {sums} {done} s l {x} e =
       each =
           below_more (λ k. get_or (set sums done x) k no_sums ≡ sums_in scenario table (suc k)) done
           (λ k h. get_or-set_other sums done k x no_sums (λ z. absurd (omega arith)) ∙ s.each k h)
-          (get_or-set_same sums done x no_sums (omega (arith, s.long)) ∙ here);
+          (get_or-set_same sums done x no_sums l ∙ here);
     }
 
 -- of accepted files, and of refused ones
@@ -82,7 +82,7 @@ module _ (f : Files) where
       (λ k l. get_or-replicate last_month k no_sums no_sums l ∙ sym (refused_sums r er h (suc k)))
 
   -- all 84, of accepted files: the loop over the months stores the sums of one after the other
-  pub stored_all : {scenario : Scenario} {table : List ℕ} {sums : List RouteSums} {done : ℕ} → SumsStored scenario table sums done → last_month ≤ done
+  pub stored_all : {scenario : Scenario} {table : List ℕ} {sums : List RouteSums} {done : ℕ} → SumsStored scenario table sums done → length sums ≤ done
       → scenario ≡ scenario_in f → table ≡ table_in f → files_refusal f ≡ 0 → by_route sums ≡ monthly_sums f
   stored_all {sums = sums} s h es et z =
-      each_month sums s.long (λ k l. s.each k (omega arith) ∙ (rw (es, et) (accepted_sums z (suc k))))
+      each_month sums s.long (λ k l. s.each k (omega (arith, s.long)) ∙ (rw (es, et) (accepted_sums z (suc k))))

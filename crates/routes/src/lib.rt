@@ -16,18 +16,10 @@ use intake::passed::PassedIntakes;
 use uptake::weights::BodyWeights;
 
 // The sums of a day's two gut routes, in pg.
-#[derive(Clone, Copy, Debug, PartialEq, Eq)]
+#[derive(Clone, Copy, Debug, Default, PartialEq, Eq)]
 pub struct RouteSums {
     pub passive: u64,
     pub active: u64,
-}
-
-impl RouteSums {
-    // Those of a month that has none.
-    const NONE: RouteSums = RouteSums {
-        passive: 0,
-        active: 0,
-    };
 }
 
 // The sums of an exposure's day, by the body weights of the month and of the saturation's; zeros if 9 refuses its intakes.
@@ -42,7 +34,7 @@ fn exposed_sums(limited: &LimitedExposure, weights: BodyWeights) -> RouteSums
             let active = uptake::total::route_sum(&routes.active);
             RouteSums { passive, active }
         }
-        Err(_) => RouteSums::NONE,
+        Err(_) => RouteSums::default(),
     }
 }
 
@@ -61,14 +53,15 @@ fn sums_in(accepted: &Accepted, month: u64) -> RouteSums
     exposed_sums(&exposure, weights)
 }
 
-// The sums of each month's day; zeros in a month whose intakes 9 refuses, and in every month of refused files.
+// The sums of each month's day; zeros in a month whose intakes 9 refuses, and in every month of refused files. Files are read here as in `engine`: what
+// the struct borrows stands in this function.
 #[tactic(auto, using(crate::proofs::MonthSums::stored_none, crate::proofs::MonthSums::stored_next, crate::proofs::MonthSums::stored_all, crate::proofs::MonthSums::refused_monthly, engine::proofs::FilesDecoded::files_passed))]
 pub fn monthly_sums(files: &CallFiles) -> [RouteSums; MONTHS]
     ensures { by_route result ≡ monthly_sums (files_in files.now) }
 {
     let mut table = [0; TABLE_NUMBERS];
     let mut decodes = 0;
-    let none = RouteSums::NONE;
+    let none = RouteSums::default();
     let mut sums = [none; MONTHS];
     let scenario = match files.read(&mut table, &mut decodes) {
         Ok(scenario) => scenario,
@@ -78,8 +71,8 @@ pub fn monthly_sums(files: &CallFiles) -> [RouteSums; MONTHS]
         scenario: &scenario,
         table: &table,
     };
-    for done in 0..MONTHS {
-        sums[done] = sums_in(&accepted, done as u64 + 1);
+    for (done, sum) in sums.iter_mut().enumerate() {
+        *sum = sums_in(&accepted, done as u64 + 1);
     }
     sums
 }

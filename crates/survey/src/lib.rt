@@ -46,7 +46,7 @@ impl<'a> ReadyFiles<'a> {
         own.course(age as u32).blood
     }
 
-    // What a row answers that accepted files have: no figure where it is skipped.
+    // What a row answers over accepted files: no figure where it is skipped.
     fn answer(&self, kept: &RowText) -> Result<Option<u32>, Refusal>
         ensures { answer_in result ≡ start_answer steps_a_day self.now.scenario.now self.now.table.now (start_of (read_kept kept.now)) }
     {
@@ -57,7 +57,7 @@ impl<'a> ReadyFiles<'a> {
     }
 }
 
-// What a row answers, of what is kept of it.
+// What a row answers, of what is kept of it. Files are read here as in `engine`: what the struct borrows stands in this function.
 pub fn kept_answer(files: &CallFiles, kept: &RowText) -> Result<Option<u32>, Refusal>
     ensures { answer_in result ≡ kept_answer steps_a_day (files_in files.now) kept.now }
 {

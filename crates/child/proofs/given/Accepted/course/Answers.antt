@@ -2,8 +2,8 @@
 use Rattle.child.proofs.CourseSteps.{course_next, course_end}
 use Rattle.child.proofs.given.Accepted.course.Goals as goal
 
-pub loop-done-preserved : goal.loop-done-preserved
-loop-done-preserved c = course_next _ _ _ c.loop-done.invariant c.loop-done-test.true c.next_month-here.ensures
+pub loop-preserved : goal.loop-preserved
+loop-preserved c = course_next _ _ _ c.loop.invariant c.loop-test.true c.next_month-here.ensures
 
 pub returns : goal.returns
-returns c = course_end _ _ _ c.loop-done.invariant c.loop-done-test.false
+returns c = course_end _ _ _ c.loop.invariant c.loop-test.false

@@ -4,5 +4,5 @@ use Rattle.child.specs.Outcomes.{course_in}
 use Rattle.child.proofs.CourseSteps.{InCourse}
 use Rattle.child.proofs.given.Accepted.course.Given as goal
 
-abbrev pub invariant-loop-done : goal.invariant-loop-done
-invariant-loop-done l = InCourse steps_a_day l.self.scenario.now l.self.table.now l.until (course_in l.here) l.done
+abbrev pub invariant-loop : goal.invariant-loop
+invariant-loop l = InCourse steps_a_day l.self.scenario.now l.self.table.now l.until (course_in l.here) l.counter
