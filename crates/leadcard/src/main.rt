@@ -33,11 +33,7 @@ impl<'a> Survey<'a> {
         ensures { result.roll.count < rows_a_group }
     {
         Survey {
-            files: CallFiles {
-                site,
-                foods: None,
-                book,
-            },
+            files: CallFiles::of(site, book),
             reader: Reader::before_text(),
             roll: Roll::new(),
         }

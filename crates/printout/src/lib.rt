@@ -34,8 +34,7 @@ pub struct Prepared {
 pub fn prepare<'a>(site: &'a [u8], book: &'a [u8]) -> Prepared
     ensures { prepared_in result ≡ prepared_of (files_of site.now book.now) }
 {
-    let foods = None;
-    let files = CallFiles { site, foods, book };
+    let files = CallFiles::of(site, book);
     let mut blood = [0u32; MONTHS];
     let run = engine::run(&files, &mut blood);
     Prepared {
