@@ -46,6 +46,7 @@ impl<'a> Survey<'a> {
 
     // Puts the rows that end in a piece on the roll, and prints each group that is full, up to the first that cannot be written, whose error it
     // answers; then the reader is where the piece leads. A step goes up to the end of a row: no index counts it.
+    #[tactic(auto, using(crate::proofs::Onward::used_within, crate::proofs::Onward::left_smaller, crate::proofs::Onward::left_leads))]
     fn read_piece(&mut self, rt: &impl Print, piece: &[u8]) -> io::Result<()>
         ensures { OnOk result (self.new.reader ≡ after self.old.reader piece.now) }
     {
