@@ -21,7 +21,7 @@ pub const LINE_BYTES: usize = 36;
 // Lines of a printout at most: 84 months and the last line.
 pub const LINES: u32 = MONTHS as u32 + 1;
 
-// What is kept of a run for its printout.
+// What is kept of a run for its printout. The list has a place for each month that may be done: memory is fixed.
 #[derive(Clone, Copy, Debug, PartialEq, Eq)]
 pub struct Prepared {
     pub months: u32,
