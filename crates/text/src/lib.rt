@@ -1,5 +1,5 @@
-// Text in fixed memory: bytes, words, decimal numbers and blood figures, put one after the other. Not by `Display`: a `write!` may fail, and these
-// cannot.
+// Text in fixed memory: bytes, words, decimal numbers and blood figures, put one after the other. Not by `write!`: to a line that implements
+// `fmt::Write` it states its bytes where it succeeds, and std's trait has no clause to say that it does. These cannot fail.
 #![tactic(auto)]
 
 ghost use Rattle.std.specs.Prelude.{◌≡◌, ℕ, ◌+◌, ◌≤◌, ◌<◌, List, [], ◌∷◌, ◌++◌, length, take};
