@@ -5,7 +5,7 @@ ghost use Rattle.std.specs.Prelude.{◌≡◌, [], ◌∷◌, IfOk};
 ghost use Rattle.numbers.specs.Choice.{first_of};
 ghost use Rattle.refusal.specs.Refusal.{number_in};
 ghost use Rattle.site.specs.Site.{site_refusal};
-ghost use Rattle.files.specs.Files.{foods_refusal_in, files_if, length_refusal, scenario_in};
+ghost use Rattle.files.specs.Files.{foods_refusal_in, files_of, files_with, files_if, length_refusal, scenario_in};
 ghost use Rattle.files.specs.CallFiles.{files_in};
 ghost use Rattle.files.specs.Internal.{read_with, FilesAreRead};
 
@@ -21,17 +21,33 @@ pub struct CallFiles<'a> {
     pub book: &'a [u8],
 }
 
-// The files of a call that has a foods block if `has_foods` says so, as C says it: the calls for cards hand on its flag.
-pub fn call_files<'a>(
-    site: &'a [u8],
-    has_foods: bool,
-    foods: &'a [u8],
-    book: &'a [u8],
-) -> CallFiles<'a>
-    ensures { files_in result ≡ files_if has_foods site.now foods.now book.now }
-{
-    let foods = if has_foods { Some(foods) } else { None };
-    CallFiles { site, foods, book }
+impl<'a> CallFiles<'a> {
+    // The files of a call without a foods block.
+    pub fn of(site: &'a [u8], book: &'a [u8]) -> Self
+        ensures { files_in result ≡ files_of site.now book.now }
+    {
+        let foods = None;
+        CallFiles { site, foods, book }
+    }
+
+    // The files of a call with one.
+    pub fn with(site: &'a [u8], foods: &'a [u8], book: &'a [u8]) -> Self
+        ensures { files_in result ≡ files_with site.now foods.now book.now }
+    {
+        let foods = Some(foods);
+        CallFiles { site, foods, book }
+    }
+
+    // The files of a call that has one if `has_foods` says so, as C says it: the calls for cards hand on its flag.
+    pub fn if_handed(site: &'a [u8], has_foods: bool, foods: &'a [u8], book: &'a [u8]) -> Self
+        ensures { files_in result ≡ files_if has_foods site.now foods.now book.now }
+    {
+        if has_foods {
+            CallFiles::with(site, foods, book)
+        } else {
+            CallFiles::of(site, book)
+        }
+    }
 }
 
 impl CallFiles<'_> {

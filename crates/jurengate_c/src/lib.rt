@@ -12,7 +12,6 @@ ghost use Rattle.engine.specs.Month.{month_of};
 ghost use Rattle.child.specs.Months.{run_answer, run_list};
 ghost use Rattle.engine.specs.Run.{run_of};
 ghost use Rattle.files.specs.Files.{files_of, files_with};
-ghost use Rattle.files.specs.CallFiles.{files_in};
 ghost use Rattle.jurengate.specs.Words.{words_of, state_of};
 
 use book::TABLE_NUMBERS;
@@ -20,21 +19,6 @@ use files::CallFiles;
 use foods::places::FIGURES;
 use jurengate::WORDS;
 use site::places::FIELDS;
-
-// The files of a call without a foods block, and with one.
-fn files_of<'a>(site: &'a [u8], book: &'a [u8]) -> CallFiles<'a>
-    ensures { files_in result ≡ files_of site.now book.now }
-{
-    let foods = None;
-    CallFiles { site, foods, book }
-}
-
-fn files_with<'a>(site: &'a [u8], foods: &'a [u8], book: &'a [u8]) -> CallFiles<'a>
-    ensures { files_in result ≡ files_with site.now foods.now book.now }
-{
-    let foods = Some(foods);
-    CallFiles { site, foods, book }
-}
 
 // Reads a site file: its refusal, and its fields, zeros if it is refused.
 #[unsafe(no_mangle)]
@@ -87,7 +71,7 @@ pub extern "C" fn jurengate_birth(site: &[u8], book: &[u8], state: &mut [u64; WO
     ensures value { result ≡ (birth_of (files_of site.now book.now)).refusal }
     ensures state_after { state.new ≡ words_of (birth_of (files_of site.now book.now)).state }
 {
-    jurengate::birth_into(&files_of(site, book), state)
+    jurengate::birth_into(&CallFiles::of(site, book), state)
 }
 
 // One month: the child a month later and its blood figure; if it is refused, the child as it was and 0.
@@ -102,7 +86,7 @@ pub extern "C" fn jurengate_month(
     ensures state_after { state.new ≡ words_of (month_of steps_a_day (state_of state.old) (files_of site.now book.now)).state }
     ensures blood_after { blood.new ≡ (month_of steps_a_day (state_of state.old) (files_of site.now book.now)).blood }
 {
-    jurengate::month_into(&files_of(site, book), state, blood)
+    jurengate::month_into(&CallFiles::of(site, book), state, blood)
 }
 
 // The run: birth and 84 months, the figure of each month done written into the list.
@@ -119,7 +103,7 @@ pub extern "C" fn jurengate_run(
     ensures state_after { state.new ≡ words_of (run_of steps_a_day (files_of site.now book.now) (length blood.old)).state }
     ensures months_after { months.new ≡ (run_answer (run_of steps_a_day (files_of site.now book.now) (length blood.old))).months }
 {
-    jurengate::run_into(&files_of(site, book), blood, state, months)
+    jurengate::run_into(&CallFiles::of(site, book), blood, state, months)
 }
 
 // The same three with a foods block, whose diet takes the place of the site file's: C has no argument that may be left out.
@@ -133,7 +117,7 @@ pub extern "C" fn jurengate_birth_foods(
     ensures value { result ≡ (birth_of (files_with site.now foods.now book.now)).refusal }
     ensures state_after { state.new ≡ words_of (birth_of (files_with site.now foods.now book.now)).state }
 {
-    jurengate::birth_into(&files_with(site, foods, book), state)
+    jurengate::birth_into(&CallFiles::with(site, foods, book), state)
 }
 
 #[unsafe(no_mangle)]
@@ -148,7 +132,7 @@ pub extern "C" fn jurengate_month_foods(
     ensures state_after { state.new ≡ words_of (month_of steps_a_day (state_of state.old) (files_with site.now foods.now book.now)).state }
     ensures blood_after { blood.new ≡ (month_of steps_a_day (state_of state.old) (files_with site.now foods.now book.now)).blood }
 {
-    jurengate::month_into(&files_with(site, foods, book), state, blood)
+    jurengate::month_into(&CallFiles::with(site, foods, book), state, blood)
 }
 
 #[unsafe(no_mangle)]
@@ -165,5 +149,5 @@ pub extern "C" fn jurengate_run_foods(
     ensures state_after { state.new ≡ words_of (run_of steps_a_day (files_with site.now foods.now book.now) (length blood.old)).state }
     ensures months_after { months.new ≡ (run_answer (run_of steps_a_day (files_with site.now foods.now book.now) (length blood.old))).months }
 {
-    jurengate::run_into(&files_with(site, foods, book), blood, state, months)
+    jurengate::run_into(&CallFiles::with(site, foods, book), blood, state, months)
 }

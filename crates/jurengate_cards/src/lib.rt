@@ -11,6 +11,7 @@ ghost use Rattle.survey.specs.Answer.{row_number, row_blood, row_skipped};
 ghost use Rattle.survey.specs.Survey.{row_answer};
 ghost use Rattle.group.specs.Group.{answered, group_answers};
 
+use files::CallFiles;
 use group::answers::WORDS;
 
 // A row over a site file, a foods block if `has_foods` says so, and a rate book: its number, its blood and whether it is skipped.
@@ -28,7 +29,7 @@ pub extern "C" fn jurengate_card_row(
     ensures blood_after { blood.new ≡ row_blood (row_answer steps_a_day (files_if has_foods site.now foods.now book.now) row.now) }
     ensures skipped_after { skipped.new ≡ row_skipped (row_answer steps_a_day (files_if has_foods site.now foods.now book.now) row.now) }
 {
-    let files = files::call_files(site, has_foods, foods, book);
+    let files = CallFiles::if_handed(site, has_foods, foods, book);
     let answer = survey::row_answer(&files, row);
     *blood = answer.unwrap_or(None).unwrap_or(0);
     *skipped = answer == Ok(None);
@@ -53,7 +54,7 @@ pub extern "C" fn jurengate_card_group(
     ensures decodes_after { decodes.new ≡ files_decodes (files_if has_foods site.now foods.now book.now) }
     ensures next_after { next.new ≡ line_start rows_a_group rows.now }
 {
-    let files = files::call_files(site, has_foods, foods, book);
+    let files = CallFiles::if_handed(site, has_foods, foods, book);
     let read = group::answer_text(&files, rows, answers);
     *decodes = read.decodes;
     *next = read.next;

@@ -17,16 +17,17 @@ fn put_last_three(line: &mut Line<LINE_BYTES>, n: u64)
     line.put_digit(n % 10);
 }
 
-// The digits of n / 1,000, with a comma before each three, and then the last three.
-pub fn put_grouped(line: &mut Line<LINE_BYTES>, n: u64)
-    requires { (n < 1_000_000_000_000) × (length line.old + grouped_most ≤ line_bytes) }
+// The digits of n / 1,000, with a comma before each three, and then the last three. It calls itself as the definition does: a loop would have to
+// find the first three, and is no plainer.
+pub fn put_grouped(line: &mut Line<LINE_BYTES>, n: u32)
+    requires { length line.old + grouped_most ≤ line_bytes }
     ensures bytes { line.new ≡ line.old ++ grouped n }
     ensures most { length line.new ≤ length line.old + grouped_most }
 {
     if n < 1_000 {
-        line.put_decimal(n);
+        line.put_decimal(n as u64);
         return;
     }
     put_grouped(line, n / 1_000);
-    put_last_three(line, n);
+    put_last_three(line, n as u64);
 }

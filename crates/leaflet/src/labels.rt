@@ -2,6 +2,7 @@
 use super::figure::FIGURES;
 use super::page::LABEL_BYTES;
 
+// A table of its own beside `site::limits::LIMITS`: that has a most for each of the 94 fields, and the site check walks it without names.
 // A figure's name, its ages (0-6 for a field for each, all for one field) and its unit.
 pub const LABELS: [&[u8; LABEL_BYTES]; FIGURES] = [
     b"air                 0-6   pg/m3                 ",

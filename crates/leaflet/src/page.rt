@@ -34,7 +34,7 @@ fn put_least(line: &mut Line<LINE_BYTES>, figure: Figure)
 {
     let least = figure.least();
     let end = line.bytes().len() + LEAST_BYTES;
-    grouped::put_grouped(line, least as u64);
+    grouped::put_grouped(line, least);
     put_blanks(line, end);
 }
 
@@ -46,15 +46,15 @@ pub fn figure_line(label: &[u8; LABEL_BYTES], figure: Figure) -> Line<LINE_BYTES
     let mut line = Line::new();
     line.put_text(label);
     put_least(&mut line, figure);
-    grouped::put_grouped(&mut line, figure.most() as u64);
+    grouped::put_grouped(&mut line, figure.most());
     line.put_byte(b'\n');
     line
 }
 
 // The line of a rule: its words, and its number at their end.
 #[tactic(auto, using(std::proofs::Common::append_assoc), unfolding(crate::specs::Leaflet::rule_line))]
-pub fn rule_line(words: &[u8], number: u64) -> Line<LINE_BYTES>
-    requires { (number < 1_000_000_000_000) × (length words.now ≤ words_most) }
+pub fn rule_line(words: &[u8], number: u32) -> Line<LINE_BYTES>
+    requires { length words.now ≤ words_most }
     ensures { result ≡ rule_line words.now number }
 {
     let mut line = Line::new();

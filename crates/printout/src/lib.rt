@@ -21,7 +21,7 @@ pub const LINE_BYTES: usize = 36;
 // Lines of a printout at most: 84 months and the last line.
 pub const LINES: u32 = MONTHS as u32 + 1;
 
-// What is kept of a run for its printout.
+// What is kept of a run for its printout. The list has a place for each month that may be done: memory is fixed.
 #[derive(Clone, Copy, Debug, PartialEq, Eq)]
 pub struct Prepared {
     pub months: u32,
@@ -34,8 +34,7 @@ pub struct Prepared {
 pub fn prepare<'a>(site: &'a [u8], book: &'a [u8]) -> Prepared
     ensures { prepared_in result ≡ prepared_of (files_of site.now book.now) }
 {
-    let foods = None;
-    let files = CallFiles { site, foods, book };
+    let files = CallFiles::of(site, book);
     let mut blood = [0u32; MONTHS];
     let run = engine::run(&files, &mut blood);
     Prepared {

@@ -1,5 +1,5 @@
-// Text in fixed memory: bytes, words, decimal numbers and blood figures, put one after the other. Not by `Display`: a `write!` may fail, and these
-// cannot.
+// Text in fixed memory: bytes, words, decimal numbers and blood figures, put one after the other. Not by `write!`: to a line that implements
+// `fmt::Write` it states its bytes where it succeeds, and std's trait has no clause to say that it does. These cannot fail.
 #![tactic(auto)]
 
 ghost use Rattle.std.specs.Prelude.{◌≡◌, ℕ, ◌+◌, ◌≤◌, ◌<◌, List, [], ◌∷◌, ◌++◌, length, take};
@@ -71,7 +71,7 @@ impl<const N: usize> Line<N> {
         self.put_byte(b'0' + n as u8);
     }
 
-    // The digits of n / 10, and then the last one.
+    // The digits of n / 10, and then the last one. It calls itself as the definition does: a loop would give the last digit first.
     pub fn put_decimal(&mut self, n: u64)
         requires { (n < 10_000_000_000) × (length self.old + 10 ≤ N) }
         ensures bytes { self.new ≡ self.old ++ decimal n }
