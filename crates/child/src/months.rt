@@ -23,7 +23,8 @@ pub struct Run {
 }
 
 impl Accepted<'_> {
-    // 84 months from a state, up to the first that is refused; the figure of each month done is written.
+    // 84 months from a state, up to the first that is refused; the figure of each month done is written. It goes into the list that the run was
+    // lent, which is a slice, so its length is asked for.
     pub fn months(&self, state: &State, blood: &mut [u32]) -> Run
         requires { length blood.old ≡ last_month }
         ensures value { run_answer_in result ≡ run_answer (child_run steps_a_day state.now self.now.scenario.now self.now.table.now) }
