@@ -16,7 +16,7 @@ pub struct MonthRates {
 }
 
 impl MonthRates {
-    // These rates and their divisors.
+    // These rates and their divisors. By number: three lists and the exits meet at each compartment, and a `zip` of them is no plainer.
     pub fn new(rates: Rates) -> MonthRates
         requires { RateLimits rates }
         ensures rates { result.rates ≡ rates }

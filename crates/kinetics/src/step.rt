@@ -39,7 +39,7 @@ impl Step<'_> {
             / self.month.divisors.compartments[i]
     }
 
-    // Point 1: n.
+    // Point 1: n. The compartments go by number, as what each returns does.
     fn inflow(&self) -> u64
         ensures { Is (inflow self.now.month.now.rates self.now.state.now.lead self.now.uptake) burden_limit result }
     {

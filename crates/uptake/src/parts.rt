@@ -8,6 +8,7 @@ use exposure::MEDIA;
 use intake::passed::PassedIntakes;
 
 // The day's uptake by its routes: of each eaten medium the passive part (U-1) and the active part of the rest, and of air (U-4).
+// By number: four lists meet at each medium, and a `zip` of them is no plainer.
 #[tactic(auto, using(crate::proofs::Loops::stored_most, crate::proofs::Loops::stored_total_most))]
 pub fn day_routes(passed: &PassedIntakes, weights: BodyWeights) -> Routes
     ensures { IsDayRoutes passed.now.exposure.now.exposure weights.month weights.month24 result }
