@@ -113,6 +113,9 @@ def file_of(call):
     return ROOT / "crates" / crate / "src" / ("/".join(modules or ["lib"]) + ".rt")
 
 
+# The files of a program whose calls of other crates are open: its `main`, and leadcard's walk through a text.
+PROGRAM_FILES = ["main.rt", "reading.rt"]
+
 # Methods of std's types that a program calls by the name of a method of ours.
 STD_METHODS = ["read"]
 
@@ -155,7 +158,7 @@ def calls():
         lines = code(path)
         exports = re.findall(r'^pub extern "C" fn (\w+)', "\n".join(lines), re.M)
         exported += [(function, path, contract(lines, function)) for function in exports]
-        if exports or path.name == "main.rt":
+        if exports or path.name in PROGRAM_FILES:
             opened |= calls_in(path)
             own += methods_in(path)
         if exports:
