@@ -4,8 +4,8 @@ ghost use Rattle.row.specs.Limits.{RowLimits};
 ghost use Rattle.blood.specs.Birth.{birth_blood, birth_organ, birth_state};
 ghost use Rattle.numbers.specs.Bounds.{Is};
 
-use super::HUNDREDTHS;
 use kinetics::{RED_CELLS, State};
+use numbers::HUNDREDTHS;
 use row::Row;
 
 // The child's blood lead at birth, in hundredths of the mother's.

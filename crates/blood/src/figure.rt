@@ -5,8 +5,8 @@ ghost use Rattle.kinetics.specs.Step.{burden, burden_limit};
 ghost use Rattle.blood.specs.Blood.{blood_of};
 ghost use Rattle.numbers.specs.Bounds.{Is};
 
-use super::HUNDREDTHS;
 use kinetics::{PLASMA_AT, RED_CELLS_AT, State};
+use numbers::HUNDREDTHS;
 use row::Row;
 
 // The ECF's volume, in hundredths of the blood's.

@@ -3,6 +3,3 @@
 
 pub mod birth; // birth.rt: the amounts at birth (B-7)
 pub mod figure; // figure.rt: the blood figure (B-9g, B-10)
-
-// What percentages are of.
-const HUNDREDTHS: u64 = 100;

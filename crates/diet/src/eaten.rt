@@ -7,10 +7,9 @@ ghost use Rattle.diet.specs.Diet.{food_lead, in_meat, half_bought, home_grown, c
 
 use foods::figures::FoodsFigures;
 use foods::places::{Food, LocalFood};
+use numbers::HUNDREDTHS;
 
-// A whole in hundredths, and in halves of them.
-const HUNDREDTHS: u64 = 100;
-
+// A whole in halves of hundredths.
 const HALF_HUNDREDTHS: u64 = 200;
 
 // The foods that count whole, E-5m to E-5v.

@@ -8,13 +8,11 @@ ghost use Rattle.refusal.specs.Refusal.{number_in};
 
 use exposure::MEDIA;
 use exposure::limited::LimitedExposure;
+use numbers::HUNDREDTHS;
 use refusal::Refusal;
 use site::{DustSource, WaterSource};
 
 pub mod passed; // passed.rt: an exposure with its intakes, which 9 lets pass
-
-// A whole, in percent or hundredths.
-pub const HUNDREDTHS: u64 = 100;
 
 const HOURS_A_DAY: u64 = 24;
 
