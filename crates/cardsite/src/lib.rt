@@ -36,7 +36,7 @@ fn over(place: usize, figure: Option<u64>) -> bool
     requires { place < field_count }
     ensures { result ≡ over (at limits place) figure }
 {
-    let limit = LIMITS[place] as u64;
+    let limit = u64::from(LIMITS[place]);
     figure.is_some_and(|n| limit < n)
 }
 
