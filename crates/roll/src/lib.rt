@@ -57,7 +57,7 @@ impl Roll {
         words::start_in(&rows[i])
     }
 
-    // Puts a row behind the others.
+    // Puts a row behind the others, at its place in the list: std does not say what a list is after a write through `as_chunks_mut`.
     #[tactic(auto, using(numbers::proofs::Parts::placed_lent))]
     fn enrol(&mut self, row: &RowText)
         requires { self.old.count < rows_a_group }
