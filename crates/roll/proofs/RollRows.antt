@@ -12,7 +12,7 @@ use Rattle.std.specs.Simd.{first_chunks}
 use Rattle.numbers.specs.Parts.{part_at}
 use Rattle.numbers.proofs.Parts.{placed_same, placed-other, placed_long}
 use Rattle.lines.specs.declared.RowText.{RowText}
-use Rattle.lines.proofs.Steps.{zeros}
+use Rattle.lines.proofs.Defaults.{zeros}
 use Rattle.card.specs.Row.{read_kept}
 use Rattle.cardsite.specs.Start.{Start, start_of}
 use Rattle.roll.specs.declared.Roll.{Roll}
