@@ -1,6 +1,6 @@
 -- A card over fields that fit gives fields that fit, and so a scenario within the limits.
 -- Assumes nothing.
-use mathlib.Core.Path.{◌≡◌, ap}
+use mathlib.Core.Path.{◌≡◌}
 use mathlib.Core.Bool.{false}
 use mathlib.Core.List.{List}
 use Prim.Native.Nat.{ℕ, ◌<◌}
@@ -8,7 +8,7 @@ use native.Mathlib.Omega.{arith}
 use borrow.Author.Tests.{ltb-false}
 use Rattle.site.specs.Fields.{groups, limits, by_age, single, air_group, soil_group, dust_group, alternate_group, dust_mode_at, water_mode_at, constant_at, first_draw_share_at, fountain_share_at, absorbed_dust_at, absorbed_soil_at, saturation_at}
 use Rattle.site.specs.Put.{every_age, singly}
-use Rattle.site.specs.Scenario.{scenario_of, with_diets}
+use Rattle.site.specs.Scenario.{scenario_of}
 use Rattle.site.specs.Laws.{Fits, Plain}
 use Rattle.site.proofs.PutFits.{singly_fits, every_age_fits}
 use Rattle.exposure.proofs.ExposureWithin.{exposure_within}
@@ -66,9 +66,3 @@ row_fits_lem c passed fields was = row_fit c passed fields was
 pub row_within : RowWithin
 unfolding row_scenario scenario_of
 row_within c passed s was age h = exposure_within (row_scenario c s) (row_fit c passed s.fields was).fit age h
-
--- a row whose figures stand in the fields already changes nothing
-pub row_same : (c : Card) (fields diets : List ℕ) → row_fields c fields ≡ fields
-    → row_scenario c (with_diets diets (scenario_of fields)) ≡ with_diets diets (scenario_of fields)
-unfolding row_scenario scenario_of
-row_same c fields diets e = ap (λ (f : List ℕ). with_diets diets (scenario_of f)) e

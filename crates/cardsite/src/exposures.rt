@@ -12,7 +12,7 @@ pub fn row_exposure(card: &Card, exposure: Exposure) -> Exposure
 {
     let soil = card.soil_or_dust();
     let dust = card.dust_or_soil();
-    let absorbed = exposure.absorbed;
+    let [diet, water, own_dust, own_soil, alternate] = exposure.absorbed;
     Exposure {
         air: card.air.unwrap_or(exposure.air),
         soil: soil.unwrap_or(exposure.soil),
@@ -22,11 +22,11 @@ pub fn row_exposure(card: &Card, exposure: Exposure) -> Exposure
         water_source: WaterSource::Constant,
         constant: card.water.unwrap_or(exposure.constant),
         absorbed: [
-            absorbed[0],
-            absorbed[1],
-            card.absdust.unwrap_or(absorbed[2]),
-            card.abssoil.unwrap_or(absorbed[3]),
-            absorbed[4],
+            diet,
+            water,
+            card.absdust.unwrap_or(own_dust),
+            card.abssoil.unwrap_or(own_soil),
+            alternate,
         ],
         ..exposure
     }

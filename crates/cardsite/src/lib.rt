@@ -15,7 +15,7 @@ use lines::RowText;
 use refusal::Refusal;
 use site::limits::LIMITS;
 use site::places::{AGES, FIELDS};
-use site::{Scenario, places};
+use site::{DustSource, Scenario, WaterSource, places};
 
 pub mod exposures; // exposures.rt: what a row makes of an exposure
 mod running; // running.rt: a card that runs
@@ -27,16 +27,13 @@ const ABSORBED_DUST: usize = places::ABSORBED + 2;
 
 const ABSORBED_SOIL: usize = places::ABSORBED + 3;
 
-// "Both modes are 0 even at a gap": dust is a given figure, and water a constant one.
-const BOTH_MODES: u32 = 0;
-
 // Is a figure over the limit of the field at a place?
 #[tactic(auto, unfolding(site::specs::Fields::limits))]
 fn over(place: usize, figure: Option<u64>) -> bool
     requires { place < field_count }
     ensures { result ≡ over (at limits place) figure }
 {
-    let limit = LIMITS[place] as u64;
+    let limit = u64::from(LIMITS[place]);
     figure.is_some_and(|n| limit < n)
 }
 
@@ -65,7 +62,7 @@ fn put_given(fields: &mut [u32; FIELDS], from: usize, count: usize, figure: Opti
     }
 }
 
-// A card over a site file's fields, with both modes 0.
+// A card over a site file's fields. "Both modes are 0 even at a gap": dust is a given figure, and water a constant one.
 #[tactic(auto, using(crate::proofs::Limited::within), unfolding(crate::specs::Fields::row_fields, crate::specs::Fields::media_fields, site::specs::Put::put_from))]
 fn put_row(card: &Card, fields: &mut [u32; FIELDS])
     requires { over_limit card.now ≡ false }
@@ -78,8 +75,8 @@ fn put_row(card: &Card, fields: &mut [u32; FIELDS])
     put_given(fields, places::CONSTANT, 1, card.water);
     put_given(fields, ABSORBED_SOIL, 1, card.abssoil);
     put_given(fields, ABSORBED_DUST, 1, card.absdust);
-    fields[places::DUST_MODE] = BOTH_MODES;
-    fields[places::WATER_MODE] = BOTH_MODES;
+    fields[places::DUST_MODE] = DustSource::Given as u32;
+    fields[places::WATER_MODE] = WaterSource::Constant as u32;
 }
 
 // The scenario of a row: that of its fields, with the diets that the files give.

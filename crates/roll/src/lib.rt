@@ -24,7 +24,7 @@ pub type RowStart = Result<Option<RunningCard>, u32>;
 
 // The rows on a roll, nine words for each: the laws speak of the words, and 64 cards would take more than three times their memory. The words behind
 // the rows are free, so there is no `PartialEq`, which would compare them.
-#[derive(Drop, Clone, Debug)]
+#[derive(Drop, Clone, Debug, Default)]
 pub struct Roll {
     pub words: [u32; ROLL_WORDS],
     pub count: usize, // 64 at most, and a greater one counts as 64
@@ -32,13 +32,11 @@ pub struct Roll {
 
 impl Roll {
     // A roll with no row.
+    #[tactic(auto, using(crate::proofs::RollRows::no_row))]
     pub fn new() -> Roll
         ensures { result ≡ blank }
     {
-        Roll {
-            words: [0; ROLL_WORDS],
-            count: 0,
-        }
+        Roll::default()
     }
 
     // How many rows are on it.
@@ -50,15 +48,16 @@ impl Roll {
 
     // What becomes of row i: no card where it is skipped. Words that no row gave are checked as a card is; a number among them may be any, so a
     // refusal is a number here.
+    #[tactic(auto, using(crate::proofs::RollRows::row_at))]
     pub fn start_at(&self, i: usize) -> RowStart
         requires { i < rows_a_group }
         ensures { start_read result ≡ start_at self.now.words i }
     {
-        let start = ROW_WORDS * i;
-        words::start_in(&self.words[start..start + ROW_WORDS])
+        let (rows, _) = self.words.as_chunks::<ROW_WORDS>();
+        words::start_in(&rows[i])
     }
 
-    // Puts a row behind the others.
+    // Puts a row behind the others, at its place in the list: std does not say what a list is after a write through `as_chunks_mut`.
     #[tactic(auto, using(numbers::proofs::Parts::placed_lent))]
     fn enrol(&mut self, row: &RowText)
         requires { self.old.count < rows_a_group }

@@ -1,11 +1,11 @@
 // The words of a row on a roll: what becomes of it, its AGE or its number, and seven figures.
 // Figures and cards are turned into words and back by functions, since no type on either side is of this crate.
-ghost use Rattle.std.specs.Prelude.{◌≡◌, ◌≤◌, length};
+ghost use Rattle.std.specs.Prelude.{◌≡◌, ◌≤◌};
 ghost use Rattle.card.specs.Row.{read_kept};
 ghost use Rattle.cardsite.specs.Start.{start_of};
 ghost use Rattle.roll.specs.Kind.{kind_in};
 ghost use Rattle.roll.specs.Read.{start_read};
-ghost use Rattle.roll.specs.Words.{words_a_row, gap_word, word_of, value_in, card_words, start_words, card_in, start_in};
+ghost use Rattle.roll.specs.Words.{gap_word, word_of, value_in, card_words, start_words, card_in, start_in};
 
 use crate::RowStart;
 use card::Card;
@@ -43,14 +43,14 @@ fn word_of(figure: Option<u64>) -> u32
     requires { word_of figure ≤ gap_word }
     ensures { result ≡ word_of figure }
 {
-    figure.unwrap_or(GAP as u64) as u32
+    figure.unwrap_or(u64::from(GAP)) as u32
 }
 
 // The figure that a word is, or none at a gap.
 fn value_in(word: u32) -> Option<u64>
     ensures { result ≡ value_in word }
 {
-    if word == GAP { None } else { Some(word as u64) }
+    (word != GAP).then_some(u64::from(word))
 }
 
 // The words of a card that runs.
@@ -83,33 +83,33 @@ pub fn row_words(row: &RowText) -> [u32; ROW_WORDS]
     }
 }
 
-// The card that a row's words are: a part of the roll's, which is a slice, so each function here asks for its length.
+// The card that a row's words are.
 #[tactic(auto, unfolding(crate::specs::Words::card_in))]
-fn card_in(words: &[u32]) -> Card
-    requires { length words.now ≡ words_a_row }
+fn card_in(words: &[u32; ROW_WORDS]) -> Card
     ensures { result ≡ card_in words.now }
 {
+    let [_, age, soil, dust, water, air, other, abssoil, absdust] = *words;
     Card {
-        age: Some(words[1] as u64),
-        soil: value_in(words[2]),
-        dust: value_in(words[3]),
-        water: value_in(words[4]),
-        air: value_in(words[5]),
-        other: value_in(words[6]),
-        abssoil: value_in(words[7]),
-        absdust: value_in(words[8]),
+        age: Some(u64::from(age)),
+        soil: value_in(soil),
+        dust: value_in(dust),
+        water: value_in(water),
+        air: value_in(air),
+        other: value_in(other),
+        abssoil: value_in(abssoil),
+        absdust: value_in(absdust),
     }
 }
 
 // What becomes of a row, by its words.
 #[tactic(auto, unfolding(crate::specs::Words::start_in))]
-pub fn start_in(words: &[u32]) -> RowStart
-    requires { length words.now ≡ words_a_row }
+pub fn start_in(words: &[u32; ROW_WORDS]) -> RowStart
     ensures { start_read result ≡ start_in words.now }
 {
-    match Kind::from(words[0]) {
+    let [kind, number, ..] = *words;
+    match Kind::from(kind) {
         Kind::Runs => Ok(cardsite::start_card(&card_in(words))?),
         Kind::Skipped => Ok(None),
-        Kind::Refused => Err(words[1]),
+        Kind::Refused => Err(number),
     }
 }

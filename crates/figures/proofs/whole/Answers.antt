@@ -22,7 +22,7 @@ returns-then-digit-lt-ZERO-clause-value c =
 
 pub loop-digit-preserved : goal.loop-digit-preserved
 loop-digit-preserved c =
-    (whole-next _ _ _ c.loop-digit.invariant.0 c.loop-digit-test.true c.if-digit-lt-ZERO.false c.if-digit-gt-NINE.false, c.loop-digit.invariant.1)
+    (rw c.from.ensures (whole-next _ _ _ c.loop-digit.invariant.0 c.loop-digit-test.true c.if-digit-lt-ZERO.false c.if-digit-gt-NINE.false), c.loop-digit.invariant.1)
 
 pub returns-clause-value : goal.returns-clause-value
 returns-clause-value c = whole_end _ _ _ c.loop-digit.invariant.0 c.loop-digit-test.false
