@@ -2,7 +2,8 @@
 // A file that is missing or cannot be opened counts as empty. If reading fails, what was read until then counts as the file.
 #![tactic(auto)]
 
-use console::{BOOK_READ, SITE_READ};
+use console::FileRoom;
+use files::CallFiles;
 use printout::{LINES, Prepared};
 use std::io;
 
@@ -15,11 +16,9 @@ fn print_lines(rt: &impl Print, run: &Prepared) -> io::Result<()> {
 }
 
 fn main(rt: HostRuntime) {
-    let mut site = [0u8; SITE_READ];
-    let mut book = [0u8; BOOK_READ];
-    let site = console::read_file(&rt, "site.lkb", &mut site);
-    let book = console::read_file(&rt, "book.lkb", &mut book);
-    let run = printout::prepare(site, book);
+    let mut room = FileRoom::default();
+    let (site, book) = room.read_both(&rt);
+    let run = printout::prepare(&CallFiles::of(site, book));
     if let Err(why) = print_lines(&rt, &run) {
         console::fail(&rt, "leadline", why);
     }
