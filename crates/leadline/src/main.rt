@@ -7,7 +7,7 @@ use files::CallFiles;
 use printout::{LINES, Prepared};
 use std::io;
 
-// Prints each line, up to the first that cannot be written, whose error it answers.
+// Prints each line, up to the first that cannot be written, whose error it answers. A line is made by its number: no list of them is walked.
 fn print_lines(rt: &impl Print, run: &Prepared) -> io::Result<()> {
     for k in 0..LINES {
         rt.write_all(run.line(k).bytes())?;
