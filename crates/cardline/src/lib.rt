@@ -24,6 +24,6 @@ pub fn put_lines(files: &CallFiles, roll: &Roll, lines: &mut Line<GROUP_BYTES>) 
     ensures value { record { bytes = length lines.new; decodes = result } ≡ lines_read (files_in files.now) roll.now.count roll.now.words }
 {
     let answers = group::answers_of(files, roll);
-    rows::put_rows(lines, answers.given());
+    rows::put_rows(lines, &answers);
     answers.decodes
 }

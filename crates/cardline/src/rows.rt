@@ -1,15 +1,15 @@
 // The lines of answers.
 ghost use Rattle.std.specs.Prelude.{◌≡◌, ◌+◌, ◌≤◌, ◌++◌, map, length};
-ghost use Rattle.roll.specs.Words.{rows_a_group};
-ghost use Rattle.group.specs.Given.{answer_read};
+ghost use Rattle.group.specs.Given.{answer_read, answers_read};
 ghost use Rattle.cardline.specs.Cardline.{row_line, joined};
 ghost use Rattle.cardline.specs.Internal.{line_bytes, group_bytes};
 
 use super::GROUP_BYTES;
-use group::given::RowAnswer;
+use group::given::{GroupAnswers, RowAnswer};
 use text::Line;
 
-// The line of a row's answer: the blood, in leadline's decimals; `---`; `refused` and the number.
+// The line of a row's answer: the blood, in leadline's decimals; `---`; `refused` and the number. It asks for its room: the type of the lines bounds
+// only the whole.
 fn put_row(lines: &mut Line<GROUP_BYTES>, answer: RowAnswer)
     requires { length lines.old + line_bytes ≤ group_bytes }
     ensures bytes { lines.new ≡ lines.old ++ row_line (answer_read answer) }
@@ -23,19 +23,19 @@ fn put_row(lines: &mut Line<GROUP_BYTES>, answer: RowAnswer)
         Ok(None) => lines.put_text(b"---\n"),
         Err(number) => {
             lines.put_text(b"refused ");
-            lines.put_decimal(number as u64);
+            lines.put_decimal(u64::from(number));
             lines.put_byte(b'\n');
         }
     }
 }
 
-// The lines of answers, one after the other.
-pub fn put_rows(lines: &mut Line<GROUP_BYTES>, answers: &[RowAnswer])
-    requires { length answers.now ≤ rows_a_group }
-    ensures { lines.new ≡ joined (map row_line (map answer_read answers.now)) }
+// The lines of a group's answers, one after the other.
+pub fn put_rows(lines: &mut Line<GROUP_BYTES>, answers: &GroupAnswers)
+    ensures { lines.new ≡ joined (map row_line (answers_read answers.now.count answers.now.rows)) }
 {
     lines.clear();
-    for answer in answers {
+    let given = answers.given();
+    for answer in given {
         put_row(lines, *answer);
     }
 }

@@ -1,8 +1,10 @@
 // What the programs need of the system beside printing: reading files, or the start of an input, and telling why they stop.
 #![tactic(auto)]
 
-ghost use Rattle.std.specs.Prelude.{◌≡◌, ◌≤◌, length, take};
+ghost use Rattle.std.specs.Prelude.{◌≡◌, ◌+◌, ◌≤◌, length, take};
 ghost use Rattle.std.specs.Io.KnownBytes.{Consumes};
+ghost use Rattle.block.specs.Block.{block_bytes};
+ghost use Rattle.book.specs.Book.{book_bytes};
 
 use std::fs::File;
 use std::io;
@@ -10,9 +12,29 @@ use std::io::{Error, Read};
 use std::rt::Files;
 
 // What is read of a site file or a book: a byte more than its format has, so that a longer file has a wrong length and is not read whole.
-pub const SITE_READ: usize = site::SITE_BYTES + 1;
+const SITE_READ: usize = site::SITE_BYTES + 1;
 
-pub const BOOK_READ: usize = book::BOOK_BYTES + 1;
+const BOOK_READ: usize = book::BOOK_BYTES + 1;
+
+// Room for a site file and a book, which a program's `main` owns: memory is fixed.
+#[derive(Default, Drop)]
+pub struct FileRoom {
+    site: [u8; SITE_READ],
+    book: [u8; BOOK_READ],
+}
+
+impl FileRoom {
+    // Reads site.lkb and book.lkb of the current folder.
+    pub fn read_both<'a>(&'a mut self, rt: &impl Files) -> (&'a [u8], &'a [u8])
+        ensures site { length result.0.now ≤ block_bytes + 1 }
+        ensures book { length result.1.now ≤ book_bytes + 1 }
+    {
+        let FileRoom { site, book } = self;
+        let site = read_file(rt, "site.lkb", site);
+        let book = read_file(rt, "book.lkb", book);
+        (site, book)
+    }
+}
 
 // Reads what the buffer holds of a file. One that is missing or cannot be opened counts as empty; if reading fails, what was read until then counts
 // as the file.

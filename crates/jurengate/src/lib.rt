@@ -22,20 +22,23 @@ pub const WORDS: usize = 11;
 fn words_of(state: &State) -> [u64; WORDS]
     ensures { result ≡ words_of state.now }
 {
-    let lead = state.lead;
-    let ledgers = state.ledgers;
+    let State {
+        month,
+        lead,
+        ledgers,
+    } = *state;
+    let [
+        plasma,
+        red_cells,
+        liver,
+        kidney,
+        other,
+        trabecular,
+        cortical,
+    ] = lead;
+    let [urine, faeces, skin] = ledgers;
     [
-        state.month,
-        lead[0],
-        lead[1],
-        lead[2],
-        lead[3],
-        lead[4],
-        lead[5],
-        lead[6],
-        ledgers[0],
-        ledgers[1],
-        ledgers[2],
+        month, plasma, red_cells, liver, kidney, other, trabecular, cortical, urine, faeces, skin,
     ]
 }
 
@@ -43,12 +46,25 @@ fn words_of(state: &State) -> [u64; WORDS]
 fn state_of(words: &[u64; WORDS]) -> State
     ensures { result ≡ state_of words.now }
 {
+    let [
+        month,
+        plasma,
+        red_cells,
+        liver,
+        kidney,
+        other,
+        trabecular,
+        cortical,
+        urine,
+        faeces,
+        skin,
+    ] = *words;
     State {
-        month: words[0],
+        month,
         lead: [
-            words[1], words[2], words[3], words[4], words[5], words[6], words[7],
+            plasma, red_cells, liver, kidney, other, trabecular, cortical,
         ],
-        ledgers: [words[8], words[9], words[10]],
+        ledgers: [urine, faeces, skin],
     }
 }
 

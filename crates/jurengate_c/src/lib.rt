@@ -20,7 +20,8 @@ use foods::places::FIGURES;
 use jurengate::WORDS;
 use site::places::FIELDS;
 
-// Reads a site file: its refusal, and its fields, zeros if it is refused.
+// Reads a site file: its refusal, and its fields, zeros if it is refused. A `match`, since the closure of `map_or` would need a clause that says what it
+// answers.
 #[unsafe(no_mangle)]
 pub extern "C" fn jurengate_read_site(site: &[u8], fields: &mut [u32; FIELDS]) -> u32
     ensures value { result ≡ (read_site site.now).refusal }

@@ -4,19 +4,18 @@
 // in pieces, and a row is never held whole: neither has a greatest length. Rows are run in groups of 64, in the text's order.
 #![tactic(auto)]
 
-use console::{BOOK_READ, SITE_READ};
+use console::FileRoom;
+use files::CallFiles;
 use reading::Survey;
 use std::fs::File;
 
 mod reading; // reading.rt: a text as far as it was read, and the lines of its rows
 
 fn main(rt: HostRuntime) {
-    let mut site = [0u8; SITE_READ];
-    let mut book = [0u8; BOOK_READ];
-    let site = console::read_file(&rt, "site.lkb", &mut site);
-    let book = console::read_file(&rt, "book.lkb", &mut book);
+    let mut room = FileRoom::default();
+    let (site, book) = room.read_both(&rt);
     if let Ok(mut file) = File::open(&rt, "card.txt") {
-        let mut survey = Survey::start(site, book);
+        let mut survey = Survey::start(CallFiles::of(site, book));
         if let Err(why) = survey.print_rows(&rt, &mut file) {
             console::fail(&rt, "leadcard", why);
         }

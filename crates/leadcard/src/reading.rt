@@ -36,9 +36,9 @@ fn print_roll(rt: &impl Print, files: &CallFiles, roll: &mut Roll) -> io::Result
 
 impl<'a> Survey<'a> {
     // The start of a text.
-    pub fn start(site: &'a [u8], book: &'a [u8]) -> Self {
+    pub fn start(files: CallFiles<'a>) -> Self {
         Survey {
-            files: CallFiles::of(site, book),
+            files,
             reader: Reader::before_text(),
             roll: Roll::new(),
         }

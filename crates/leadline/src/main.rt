@@ -2,11 +2,12 @@
 // A file that is missing or cannot be opened counts as empty. If reading fails, what was read until then counts as the file.
 #![tactic(auto)]
 
-use console::{BOOK_READ, SITE_READ};
+use console::FileRoom;
+use files::CallFiles;
 use printout::{LINES, Prepared};
 use std::io;
 
-// Prints each line, up to the first that cannot be written, whose error it answers.
+// Prints each line, up to the first that cannot be written, whose error it answers. A line is made by its number: no list of them is walked.
 fn print_lines(rt: &impl Print, run: &Prepared) -> io::Result<()> {
     for k in 0..LINES {
         rt.write_all(run.line(k).bytes())?;
@@ -15,11 +16,9 @@ fn print_lines(rt: &impl Print, run: &Prepared) -> io::Result<()> {
 }
 
 fn main(rt: HostRuntime) {
-    let mut site = [0u8; SITE_READ];
-    let mut book = [0u8; BOOK_READ];
-    let site = console::read_file(&rt, "site.lkb", &mut site);
-    let book = console::read_file(&rt, "book.lkb", &mut book);
-    let run = printout::prepare(site, book);
+    let mut room = FileRoom::default();
+    let (site, book) = room.read_both(&rt);
+    let run = printout::prepare(&CallFiles::of(site, book));
     if let Err(why) = print_lines(&rt, &run) {
         console::fail(&rt, "leadline", why);
     }

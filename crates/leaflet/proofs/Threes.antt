@@ -11,6 +11,7 @@ use lib.ListN.{length, length-append}
 use Rattle.text.specs.Decimal.{decimal}
 use Rattle.text.proofs.Digits.{digits_length}
 use Rattle.leaflet.specs.Grouped.{last_three, grouped_within, grouped}
+use Rattle.leaflet.specs.Internal.{grouped_limit}
 
 -- a number below 1,000 has no comma; a larger one is that of its thousands, and the last three digits
 groups_one : (k n : ℕ) → n < 1_000 → grouped_within (suc k) n ≡ decimal n
@@ -48,13 +49,13 @@ groups_enough (suc k) n h =
 pub grouped_one : (n : ℕ) → n < 1_000 → grouped n ≡ decimal n
 grouped_one n h = groups_one 3 n h
 
-thousands : (n : ℕ) → n < 1_000_000_000_000 → grouped (n / 1_000) ≡ grouped_within 3 (n / 1_000)
+thousands : (n : ℕ) → n < grouped_limit → grouped (n / 1_000) ≡ grouped_within 3 (n / 1_000)
 thousands n fits =
     let few : n / 1_000 < 1_000_000_000 = omega arith in
     groups_enough 2 (n / 1_000) few
 
-pub thousands_short : (n : ℕ) → n < 1_000_000_000_000 → length (grouped (n / 1_000)) ≤ 18
+pub thousands_short : (n : ℕ) → n < grouped_limit → length (grouped (n / 1_000)) ≤ 18
 thousands_short n fits = rw (thousands n fits) (groups-length 3 (n / 1_000))
 
-pub grouped_last : (n : ℕ) → n < 1_000_000_000_000 → 1_000 ≤ n → grouped n ≡ grouped (n / 1_000) ++ last_three n
+pub grouped_last : (n : ℕ) → n < grouped_limit → 1_000 ≤ n → grouped n ≡ grouped (n / 1_000) ++ last_three n
 grouped_last n fits h = rw (thousands n fits) (groups-last 3 n h)

@@ -4,7 +4,11 @@ use Rattle.std.specs.Prelude.{◌≡◌, ℕ, suc, ◌≤◌, ◌<◌}
 use Rattle.site.specs.Fields.{limits, at}
 use Rattle.leaflet.specs.Figures.{place_of, most_of}
 
--- bytes kept for a number: ten digits, and three times a comma and three digits
+-- the numbers that four threes of digits hold are below this
+abbrev pub grouped_limit : ℕ
+grouped_limit = 1_000_000_000_000
+
+-- bytes kept for such a number: ten digits, and three times a comma and three digits
 abbrev pub grouped_most : ℕ
 grouped_most = 22
 

@@ -52,7 +52,6 @@ impl Figure {
     pub fn most(self) -> u32
         ensures { MostOf self.number result }
     {
-        let place = self.place();
-        LIMITS[place]
+        LIMITS[self.place()]
     }
 }

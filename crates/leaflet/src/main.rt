@@ -2,7 +2,7 @@
 #![tactic(auto)]
 
 ghost use Rattle.std.specs.Prelude.{◌≤◌, ◌<◌, length};
-ghost use Rattle.leaflet.specs.Internal.{words_most};
+ghost use Rattle.leaflet.specs.Internal.{grouped_limit, words_most};
 
 use figure::Figure;
 use labels::LABELS;
@@ -23,8 +23,8 @@ fn print_figures(rt: &impl Print) -> io::Result<()> {
 }
 
 // Prints a rule: its words, and its number at their end.
-fn print_rule(rt: &impl Print, words: &[u8], number: u32) -> io::Result<()>
-    requires { length words.now ≤ words_most }
+fn print_rule(rt: &impl Print, words: &[u8], number: u64) -> io::Result<()>
+    requires { (number < grouped_limit) × (length words.now ≤ words_most) }
 {
     rt.write_all(page::rule_line(words, number).bytes())
 }
@@ -36,9 +36,9 @@ fn print_leaflet(rt: &impl Print) -> io::Result<()> {
     print_rule(
         rt,
         b"\nfirst_draw_share and fountain_share together: at most ",
-        SHARES_MOST as u32,
+        SHARES_MOST,
     )?;
-    print_rule(rt, b"saturation: at least ", SATURATION_LEAST)
+    print_rule(rt, b"saturation: at least ", u64::from(SATURATION_LEAST))
 }
 
 fn main(rt: HostRuntime) {

@@ -2,7 +2,7 @@
 ghost use Rattle.std.specs.Prelude.{◌≡◌, ◌+◌, ◌-◌, ◌≤◌, ◌<◌, ◌++◌, length, replicate};
 ghost use Rattle.text.specs.Characters.{space};
 ghost use Rattle.leaflet.specs.Leaflet.{least_bytes, least_column, figure_line, rule_line};
-ghost use Rattle.leaflet.specs.Internal.{grouped_most, line_bytes, words_most};
+ghost use Rattle.leaflet.specs.Internal.{grouped_limit, grouped_most, line_bytes, words_most};
 
 use super::figure::Figure;
 use super::grouped;
@@ -13,7 +13,7 @@ pub const LABEL_BYTES: usize = 48;
 
 const LEAST_BYTES: usize = 11;
 
-// Bytes that every line fits in.
+// Bytes that every line fits in. What puts a part of a line asks for its room: the line's type bounds only the whole.
 pub const LINE_BYTES: usize = 96;
 
 // Blanks up to a place.
@@ -34,7 +34,7 @@ fn put_least(line: &mut Line<LINE_BYTES>, figure: Figure)
 {
     let least = figure.least();
     let end = line.bytes().len() + LEAST_BYTES;
-    grouped::put_grouped(line, least);
+    grouped::put_grouped(line, u64::from(least));
     put_blanks(line, end);
 }
 
@@ -46,15 +46,15 @@ pub fn figure_line(label: &[u8; LABEL_BYTES], figure: Figure) -> Line<LINE_BYTES
     let mut line = Line::new();
     line.put_text(label);
     put_least(&mut line, figure);
-    grouped::put_grouped(&mut line, figure.most());
+    grouped::put_grouped(&mut line, u64::from(figure.most()));
     line.put_byte(b'\n');
     line
 }
 
 // The line of a rule: its words, and its number at their end.
 #[tactic(auto, using(std::proofs::Common::append_assoc), unfolding(crate::specs::Leaflet::rule_line))]
-pub fn rule_line(words: &[u8], number: u32) -> Line<LINE_BYTES>
-    requires { length words.now ≤ words_most }
+pub fn rule_line(words: &[u8], number: u64) -> Line<LINE_BYTES>
+    requires { (number < grouped_limit) × (length words.now ≤ words_most) }
     ensures { result ≡ rule_line words.now number }
 {
     let mut line = Line::new();

@@ -3,7 +3,7 @@
 
 ghost use Rattle.std.specs.Prelude.{◌≡◌, get_or};
 ghost use Rattle.refusal.specs.Refusal.{number_in};
-ghost use Rattle.files.specs.Files.{files_of};
+ghost use Rattle.files.specs.CallFiles.{files_in};
 ghost use Rattle.printout.specs.Printout.{last_line};
 ghost use Rattle.printout.specs.Lines.{prepared_of, line_at};
 ghost use Rattle.printout.specs.Prepared.{prepared_in};
@@ -29,14 +29,13 @@ pub struct Prepared {
     pub end: Result<(), Refusal>, // the refusal that ended the run, if one did
 }
 
-// Runs the two files, of any length and content.
+// Runs the files, of any length and content.
 #[tactic(auto, unfolding(crate::specs::Lines::prepared_of))]
-pub fn prepare<'a>(site: &'a [u8], book: &'a [u8]) -> Prepared
-    ensures { prepared_in result ≡ prepared_of (files_of site.now book.now) }
+pub fn prepare(files: &CallFiles) -> Prepared
+    ensures { prepared_in result ≡ prepared_of (files_in files.now) }
 {
-    let files = CallFiles::of(site, book);
     let mut blood = [0u32; MONTHS];
-    let run = engine::run(&files, &mut blood);
+    let run = engine::run(files, &mut blood);
     Prepared {
         months: run.months,
         blood,

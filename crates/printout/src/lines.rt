@@ -23,7 +23,7 @@ pub fn month_line(month: u32, blood: u32) -> Line<LINE_BYTES>
     ensures { result ≡ month_line month blood }
 {
     let mut line = Line::new();
-    line.put_decimal(month as u64);
+    line.put_decimal(u64::from(month));
     line.put_byte(b' ');
     line.put_figure(blood);
     line.put_byte(b' ');
@@ -39,9 +39,9 @@ pub fn refused_line(refusal: Refusal, months: u32) -> Line<LINE_BYTES>
 {
     let mut line = Line::new();
     line.put_text(b"refused ");
-    line.put_decimal(refusal.number() as u64);
+    line.put_decimal(u64::from(refusal.number()));
     line.put_text(b" after ");
-    line.put_decimal(months as u64);
+    line.put_decimal(u64::from(months));
     line.put_byte(b'\n');
     line
 }

@@ -9,7 +9,7 @@ ghost use Rattle.text.specs.Figure.{tenths, figure};
 use std::marker::Model;
 
 // A line of at most N bytes.
-#[derive(Debug, Drop)]
+#[derive(Debug, Default, Drop)]
 pub struct Line<const N: usize> {
     place: [u8; N],
     put: usize, // bytes of the line, at the front of its place
@@ -29,10 +29,7 @@ impl<const N: usize> Line<N> {
     pub fn new() -> Self
         ensures { result ≡ [] }
     {
-        Line {
-            place: [0; N],
-            put: 0,
-        }
+        Self::default()
     }
 
     pub fn bytes(&self) -> &[u8]
@@ -55,6 +52,7 @@ impl<const N: usize> Line<N> {
         self.put += 1;
     }
 
+    // A byte at a time: `copy_from_slice` would take a slice of the whole place first and count `put` apart, and is no plainer.
     pub fn put_text(&mut self, text: &[u8])
         requires { length self.old + length text.now ≤ N }
         ensures { self.new ≡ self.old ++ text.now }
@@ -103,5 +101,5 @@ impl<const N: usize> Line<N> {
 fn tenths_of(blood: u32) -> u64
     ensures { result ≡ tenths blood }
 {
-    (blood as u64 + 50) / 100
+    (u64::from(blood) + 50) / 100
 }

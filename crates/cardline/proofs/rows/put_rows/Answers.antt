@@ -10,6 +10,6 @@ loop-answer-init c = search rules
 
 pub loop-answer-preserved : goal.loop-answer-preserved
 loop-answer-preserved c = (
-  c.put_row.ensures.bytes ∙ rw c.loop-answer.invariant.0 (lines_more c.args.answers.now c.loop-answer.answer-index c.loop-answer-test.true),
+  c.put_row.ensures.bytes ∙ rw c.loop-answer.invariant.0 (lines_more c.given-given.result.now c.loop-answer.answer-index c.loop-answer-test.true),
   omega (arith, c.put_row.ensures.most, c.loop-answer.invariant.1),
 )

@@ -6,4 +6,4 @@ use Rattle.cardline.specs.Internal.{line_bytes}
 use Rattle.cardline.proofs.rows.put_rows.Given as goal
 
 abbrev pub invariant-loop-answer : goal.invariant-loop-answer
-invariant-loop-answer l = (l.lines ≡ joined (map row_line (map answer_read (take l.answer-index l.answers)))) × (length l.lines ≤ line_bytes * l.answer-index)
+invariant-loop-answer l = (l.lines ≡ joined (map row_line (map answer_read (take l.answer-index l.given)))) × (length l.lines ≤ line_bytes * l.answer-index)

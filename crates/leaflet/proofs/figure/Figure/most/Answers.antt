@@ -5,4 +5,4 @@ use Rattle.leaflet.proofs.figure.Figure.most.Goals as goal
 
 pub returns : goal.returns
 unfolding limits
-returns c = most_of_lem c.args.self.number c.args.self.within c.place-place.ensures
+returns c = most_of_lem c.args.self.number c.args.self.within c.place.ensures
