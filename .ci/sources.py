@@ -160,7 +160,7 @@ def calls():
         exported += [(function, path, contract(lines, function)) for function in exports]
         if exports or path.name in PROGRAM_FILES:
             opened |= calls_in(path)
-            own += methods_in(path)
+            own += [one for one in methods_in(path) if one not in own]
         if exports:
             for library in {file_of(call) for call in calls_in(path) if call.split("::")[0] in C_LIBRARIES}:
                 opened |= calls_in(library)

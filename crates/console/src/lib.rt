@@ -38,7 +38,7 @@ impl FileRoom {
 
 // Reads what the buffer holds of a file. One that is missing or cannot be opened counts as empty; if reading fails, what was read until then counts
 // as the file.
-pub fn read_file<'a>(rt: &impl Files, path: &str, buffer: &'a mut [u8]) -> &'a [u8]
+fn read_file<'a>(rt: &impl Files, path: &str, buffer: &'a mut [u8]) -> &'a [u8]
     ensures { length result.now ≤ length buffer.old }
 {
     match File::open(rt, path) {
