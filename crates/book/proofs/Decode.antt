@@ -143,9 +143,6 @@ module _ (book table : List ℕ) where
   at_first h = record { reach = omega arith; counted = refl; long = h; refusal = refl; count = zero-add _; front = refl }
 
   module _ (n decodes : ℕ) (i : AtBlock book table n decodes) where
-    pub decodes_below : n < book_blocks → decodes < book_blocks
-    decodes_below h = omega (arith, i.counted)
-
     module _ (h : n < book_blocks) (after : List ℕ) (r : BookRead) (d : BlockDecoded book n table after r.refusal) (by_one : r.decodes ≡ decodes + 1) where
       blocks_left : book_blocks - n ≡ suc (book_blocks - (n + 1))
       blocks_left = omega arith

@@ -1,9 +1,9 @@
 // The rate book: 17 blocks of five month rows each, decoded once into a table of numbers, or refused.
 #![tactic(auto)]
 
-ghost use Rattle.std.specs.Prelude.{◌≡◌, ◌+◌, ◌<◌, length};
+ghost use Rattle.std.specs.Prelude.{◌≡◌, ◌+◌, ◌<◌};
 ghost use Rattle.refusal.specs.Refusal.{number_in};
-ghost use Rattle.book.specs.Book.{book_blocks, book_bytes, book_form, book_refusal, book_decodes, book_table};
+ghost use Rattle.book.specs.Book.{book_blocks, book_form, book_refusal, book_decodes, book_table};
 ghost use Rattle.book.specs.Internal.{BlockDecoded, BookDecoded};
 
 use block::read::Fields;
@@ -34,14 +34,15 @@ fn book_form(n: u32) -> Form
 }
 
 // Decodes block n of a book into its part of the table. No other function decodes a block, and none but this raises the number of decodes: by one,
-// whether the block is refused or not. The number is lent beside the table and is no part of the answer, since a refusal tells it too.
+// whether the block is refused or not. The number is lent beside the table and is no part of the answer, since a refusal tells it too. The two
+// make no struct, here or in the calls above: C lends the table alone.
 fn decode_block(
-    book: &[u8],
+    book: &[u8; BOOK_BYTES],
     n: usize,
     table: &mut [u32; TABLE_NUMBERS],
     decodes: &mut u32,
 ) -> Result<(), Refusal>
-    requires { (length book.now ≡ book_bytes) × ((n < book_blocks) × (decodes.old < book_blocks)) }
+    requires { (n < book_blocks) × (decodes.old < book_blocks) }
     ensures block_decoded { BlockDecoded book.now n table.old table.new (number_in result) }
     ensures decodes_after { decodes.new ≡ decodes.old + 1 }
 {
@@ -60,13 +61,13 @@ fn decode_block(
     }
 }
 
-// Decodes the blocks in turn, up to the first that is refused.
+// Decodes the blocks in turn, each by its own number, up to the first that is refused.
 fn decode_blocks(
-    book: &[u8],
+    book: &[u8; BOOK_BYTES],
     table: &mut [u32; TABLE_NUMBERS],
     decodes: &mut u32,
 ) -> Result<(), Refusal>
-    requires { (length book.now ≡ book_bytes) × (decodes.old ≡ 0) }
+    requires { decodes.old ≡ 0 }
     ensures { BookDecoded book.now table.new (record { refusal = number_in result; decodes = decodes.new }) }
 {
     for n in 0..BOOK_BLOCKS {
@@ -86,10 +87,10 @@ pub fn read_book(
     ensures table_after { table.new ≡ book_table book.now }
 {
     *decodes = 0;
-    if book.len() != BOOK_BYTES {
+    let Ok(book) = book.try_into() else {
         table.fill(0);
         return Err(Refusal::WrongLength);
-    }
+    };
     let decoded = decode_blocks(book, table, decodes);
     if decoded.is_err() {
         table.fill(0); // the blocks before the refused one left their numbers

@@ -16,10 +16,7 @@ module _ (w : ℕ) where
   pub part_ends : {j i : ℕ} → j < i → w * j + w ≤ w * i
   part_ends {j = j} {i = i} h = let more : j + 1 ≤ i = omega arith in let e : w * (j + 1) ≤ w * i = mul-le-mul_left w more in omega (arith, e)
 
-  -- a part lent from its start to its end, as it is and as it comes back
-  pub part_lent : (l : List ℕ) (i : ℕ) → take (w * i + w - w * i) (drop (w * i) l) ≡ part_at w l i
-  part_lent l i = let e : w * i + w - w * i ≡ w = omega arith in rw e
-
+  -- a part lent from its start to its end, as it comes back
   pub placed_lent : (l : List ℕ) (i : ℕ) {part put : List ℕ} → put ≡ part
       → take (w * i) l ++ (put ++ drop (w * i + w - w * i) (drop (w * i) l)) ≡ placed w i part l
   unfolding placed

@@ -14,7 +14,7 @@ rows-tested : {fit : Bool} (c : After-rows_fit) → c.rows_fit.result ≡ fit �
     let a = c.args in
     BlockDecoded a.book.now a.n a.table.now (stored a.n c.read_numbers.new.target a.table.now) (unless fit 8)
 rows-tested c answered =
-    checked_rows _ c.args.n _ c.told-table c.requires.1.0 (sym (c.in_ok-check_block.ensures ∙ ap (block_refusal _) c.book_form.ensures)) _
+    checked_rows _ c.args.n _ c.told-table c.requires.0 (sym (c.in_ok-check_block.ensures ∙ ap (block_refusal _) c.book_form.ensures)) _
     c.read_numbers.ensures (sym c.rows_fit.ensures ∙ answered)
 
 -- the header is held to the form that the code made

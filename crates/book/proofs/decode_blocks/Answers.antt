@@ -6,7 +6,7 @@ use Rattle.book.proofs.Decode.{at_first, at_refused, at_next, at_end}
 use Rattle.book.proofs.decode_blocks.Goals as goal
 
 pub loop-n-init : goal.loop-n-init
-loop-n-init c = rw c.requires.1 (at_first _ _ c.told-table)
+loop-n-init c = rw c.requires (at_first _ _ c.told-table)
 
 pub returns-in_err-decode_block : goal.returns-in_err-decode_block
 returns-in_err-decode_block c =

@@ -1,13 +1,10 @@
--- `numbers::widened` meets its contract: the numbers stored so far are the first of its part.
-use lib.ListN.{length-replicate}
-use Rattle.numbers.proofs.Loops.{filled_none, filled_next, filled_all}
+-- `numbers::widened` meets its contract: the array is made by the numbers of its part.
+use Rattle.std.proofs.Common.{rules}
+use borrow.Author.Tests.{tests}
+use lib.ListN.{get_or}
+use Prim.Native.Nat.{◌+◌}
+use Rattle.numbers.proofs.ByIndex.{tab_made}
 use Rattle.numbers.proofs.widened.Goals as goal
 
-pub loop-k-init : goal.loop-k-init
-loop-k-init g c = filled_none _ _ (length-replicate g.row.N 0)
-
-pub loop-k-preserved : goal.loop-k-preserved
-loop-k-preserved g c = filled_next c.loop-k.invariant c.loop-k-test.true c.from.ensures
-
 pub returns : goal.returns
-returns g c = filled_all c.loop-k.invariant c.loop-k-test.false
+returns g c = tab_made _ (λ k. get_or c.args.numbers.now (c.args.from + k) 0) _ (λ i y q called. search (rules, tests)) _ _ c.from_fn.ensures.items

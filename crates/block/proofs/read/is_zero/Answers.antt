@@ -1,25 +1,18 @@
--- `block::read::is_zero` meets its contract: what is left to look at answers as the whole does.
-use mathlib.Core.Path.{refl}
-use borrow.Author.Tests.{eq-eqb, ne_eqb}
-use Rattle.numbers.proofs.Every.{every-next, every_stop, every_done}
-use Rattle.block.specs.Block.{zeros_from}
+-- `block::read::is_zero` meets its contract: each byte up to `to`, but for the first `from`, is tested.
+use Rattle.std.proofs.Common.{rules, ◌∙◌, take}
+use Rattle.std.proofs.lemmas.Iterator.{YieldsList-from_slice}
+use Rattle.std.proofs.lemmas.Iterator.Adapters.{YieldsList-from_skip}
+use Rattle.std.proofs.lemmas.Iterator.Consumers.{YieldsList-at}
+use Rattle.std.proofs.lemmas.Iterator.Search.{all_from_yields_List}
+use borrow.Author.Tests.{tests}
+use lib.Dec.{eqb}
+use Rattle.block.proofs.Zeros.{zeros_skipped}
 use Rattle.block.proofs.read.is_zero.Goals as goal
 
-pub loop-i-init : goal.loop-i-init
-unfolding zeros_from
-loop-i-init c = refl
-
-pub returns-then-byte-ne0 : goal.returns-then-byte-ne0
-returns-then-byte-ne0 c =
-    let l = c.loop-i in
-    every_stop _ l.i _ l.invariant c.loop-i-test.true
-    (ne_eqb _ 0 c.if-byte-ne0.true)
-
-pub loop-i-preserved : goal.loop-i-preserved
-loop-i-preserved c =
-    let l = c.loop-i in
-    every-next _ l.i _ l.invariant c.loop-i-test.true
-    (eq-eqb _ 0 (c.if-byte-ne0.false))
-
 pub returns : goal.returns
-returns c = every_done _ c.loop-i.i _ c.loop-i.invariant c.loop-i-test.false
+returns c =
+    let a = c.args in
+    all_from_yields_List (λ byte. eqb byte 0) _ _ _ c.all.ensures.ran
+    (YieldsList-from_skip a.from (YieldsList-at c.skip.ensures.source (YieldsList-from_slice (take a.to a.s.now) (cc))) (cc))
+    (λ x b q k. search (rules, tests))
+    ∙ zeros_skipped a.s.now a.to c.requires a.from
