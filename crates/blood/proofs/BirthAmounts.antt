@@ -44,9 +44,6 @@ module _ {row : Row} (lim : RowLimits row) where
     pub total_fits : n * row.blood_volume ≤ 5_100_000_000
     total_fits = mul-le-mul (le_trans (le_of_eq e) (birth_blood_le h)) lim.blood_most
 
-    pub plasma_fits : n * row.blood_volume * back row.rates 0 ≤ 510_000_000_000_000_000
-    plasma_fits = mul-le-mul total_fits red_cell_back_le
-
   blood_parts : (mother : ℕ) → birth_plasma row mother + birth_red_cells row mother ≡ birth_total row mother
   unfolding birth_plasma birth_red_cells birth_total
   blood_parts mother = add-sub_of_le (plasma_le_total (birth_blood mother))

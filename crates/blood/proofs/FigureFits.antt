@@ -18,12 +18,6 @@ unfolding sum_to
 two_le_burden lead = omega arith
 
 module _ {row : Row} (lead : List ℕ) (lim : RowLimits row) (h : burden lead ≤ burden_limit) where
-  pub plasma_volume_fits : plasma lead * row.plasma_volume ≤ 3_000_000_000_000_000
-  plasma_volume_fits =
-      let p : plasma lead ≤ burden_limit = omega (arith, two_le_burden lead) in
-      let v : row.plasma_volume ≤ 60_000 = omega (arith, lim.plasma_most, lim.blood_most) in
-      mul-le-mul p v
-
   plasma_part_le : plasma_part row lead ≤ plasma lead
   unfolding plasma_part
   plasma_part_le = part_le (plasma lead) (omega arith) (omega (arith, lim.plasma_least))

@@ -2,9 +2,8 @@
 -- Assumes nothing.
 use mathlib.Core.Path.{◌≡◌, refl, ap, ap₂}
 use mathlib.Core.List.{List}
-use Prim.Native.Nat.{ℕ, zero, suc, ◌+◌, ◌-◌, ◌*◌, ◌/◌, ◌≤◌, ◌<◌}
+use Prim.Native.Nat.{ℕ, ◌+◌, ◌-◌, ◌*◌, ◌/◌, ◌≤◌, ◌<◌}
 use native.Mathlib.Nat.{mul-le-mul_left, mul-le-mul_right, mul-le-mul, mul_comm, div-mul-le_self, le_of_mul-le-mul_right}
-use native.Mathlib.Decide.{dec_lt}
 use native.Mathlib.Omega.{arith}
 use lib.ListN.{get_or}
 use Rattle.numbers.specs.Sums.{sum_to}
@@ -14,21 +13,11 @@ use Rattle.row.specs.Row.{unit, out, back}
 use Rattle.row.specs.Limits.{RateLimits}
 use Rattle.kinetics.specs.declared.State.{State}
 use Rattle.kinetics.specs.declared.Divisors.{Divisors}
-use Rattle.kinetics.specs.Step.{plasma, amount, compartment_divisor, returned, retained, inflow, divisor, solved_plasma, new_amount, burden_limit}
+use Rattle.kinetics.specs.Step.{amount, compartment_divisor, returned, retained, inflow, divisor, solved_plasma, new_amount, burden_limit}
 use Rattle.numbers.specs.Bounds.{Is}
 use Rattle.numbers.proofs.Bounds.{is}
 use Rattle.kinetics.specs.Internal.{Ready}
 use Rattle.kinetics.proofs.DivisorMargin.{part_le, compartment_divisor_pos, back_le, retained_eq, divisor_pos}
-
--- the first terms of a sum are at most the whole
-sum_front : (n : ℕ) (f : ℕ → ℕ) (i : ℕ) → i ≤ n → sum_to i f ≤ sum_to n f
-unfolding sum_to
-sum_front zero f i h = let none : i ≡ 0 = omega arith in rw none (omega arith)
-sum_front (suc n) f i h =
-    elim (dec_lt n i) [
-      | yes over ↦ let all : i ≡ suc n = omega arith in rw all (omega arith)
-      | no within ↦ omega (arith, sum_front n f i (omega arith))
-    ]
 
 half_le : (a b : ℕ) {e : ℕ} → 2 * b ≤ e → 0 < e → 2 * (a * b / e) ≤ a
 half_le a b {e} h pos = le_of_mul-le-mul_right (omega (arith, div-mul-le_self (a * b) e, mul-le-mul_left a h)) pos
@@ -63,6 +52,11 @@ module _ {r : Rates} (lim : RateLimits r) {i : ℕ} (l : i < 6) where
   unfolding divisor
   out_twice_divisor = omega (arith, out_twice_retained, sum_has 6 (retained r) i l)
 
+-- the six together
+pub retained-sum_most : {r : Rates} → RateLimits r → sum_to 6 (retained r) ≤ 38_400_000_000
+unfolding sum_to
+retained-sum_most {r} lim = sum_le 6 (retained r) (λ i. 6_400_000_000) (λ i l. retained_small lim l)
+
 unit_le_divisor : (r : Rates) (i : ℕ) → unit ≤ compartment_divisor r i
 unfolding compartment_divisor
 unit_le_divisor r i = omega arith
@@ -80,11 +74,6 @@ module _ {r : Rates} {q : Divisors} {s : State} {u : ℕ} (ready : Ready r q s u
   unfolding inflow
   inflow_small =
       omega (arith, sum_le 6 (returned r s.lead) (amount s.lead) (λ i l. returned_le_amount r s.lead i), ready.room)
-
-  -- what there is with the returns of the first compartments
-  pub inflow_part : {i : ℕ} → i < 6 → plasma s.lead + u + sum_to (i + 1) (returned r s.lead) ≤ burden_limit
-  unfolding inflow
-  inflow_part {i} l = omega (arith, inflow_small, sum_front 6 (returned r s.lead) (i + 1) (omega arith))
 
   -- n is the inflow
   pub solved_plasma_is : {n : ℕ} → n ≡ inflow r s.lead u → n * unit / q.plasma ≡ solved_plasma r s.lead u
@@ -138,6 +127,3 @@ module _ {r : Rates} {q : Divisors} {s : State} {u : ℕ} (ready : Ready r q s u
     unfolding new_amount
     new_amount_is h =
         is (ap₂ (λ (p d : ℕ). (amount s.lead i * unit + out r i * p) / d) h (ready.divisors_of.compartments i l)) new_amount_small
-
-    pub exit_fits : {n : ℕ} → n ≡ new_amount r s.lead (solved_plasma r s.lead u) i → (c : ℕ) → 2 * c ≤ unit → c * n ≤ 7_500_000_000_000_000_000
-    exit_fits e c h = rw e (omega (arith, mul-le-mul h new_amount_small))

@@ -3,5 +3,4 @@ pub mod DivisorMargin
 pub mod Balance
 pub mod Bounds
 pub mod Burden
-pub mod Divided
 pub mod Assembly

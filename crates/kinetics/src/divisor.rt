@@ -1,10 +1,13 @@
 // What a month's steps share: its rates, the divisors E1 to E6, and d (point 1 of "One step").
-ghost use Rattle.std.specs.Prelude.{◌≡◌};
+ghost use Rattle.std.specs.Prelude.{◌≡◌, ◌<◌};
 ghost use Rattle.row.specs.Limits.{RateLimits};
+ghost use Rattle.kinetics.specs.Step.{compartment_divisor, retained};
 ghost use Rattle.kinetics.specs.Internal.{DivisorsOf};
+ghost use Rattle.numbers.specs.Bounds.{Is};
 
 use super::{COMPARTMENTS, Divisors};
 use row::{Rates, UNIT};
+use std::array;
 
 // A month's rates, within their limits, and their divisors.
 #[derive(Clone, Copy, Debug, PartialEq, Eq)]
@@ -15,23 +18,36 @@ pub struct MonthRates {
     pub ghost of_rates: { DivisorsOf rates divisors },
 }
 
+// E of compartment i.
+#[tactic(auto, unfolding(crate::specs::Step::compartment_divisor))]
+fn compartment_divisor(rates: &Rates, i: usize) -> u64
+    requires limits { RateLimits rates.now }
+    requires within { i < 6 }
+    ensures { result ≡ compartment_divisor rates.now i }
+{
+    UNIT + rates.back[i] + rates.exit(i)
+}
+
+// What of a of compartment i does not come back within the step.
+fn retained(rates: &Rates, i: usize) -> u64
+    requires limits { RateLimits rates.now }
+    requires within { i < 6 }
+    ensures { Is (retained rates.now i) 6_400_000_000 result }
+{
+    let a = rates.out[i];
+    a - a * rates.back[i] / compartment_divisor(rates, i)
+}
+
 impl MonthRates {
-    // These rates and their divisors. By number: three lists and the exits meet at each compartment, and a `zip` of them is no plainer.
+    // These rates and their divisors.
     pub fn new(rates: Rates) -> MonthRates
         requires { RateLimits rates }
         ensures rates { result.rates ≡ rates }
         ensures divisors { DivisorsOf rates result.divisors }
     {
-        let mut compartments = [0; COMPARTMENTS];
-        let mut plasma = UNIT + rates.urine;
-        for i in 0..COMPARTMENTS {
-            let a = rates.out[i];
-            let b = rates.back[i];
-            let e = UNIT + b + rates.exit(i);
-            let retained = a - a * b / e; // what of a does not come back within the step
-            compartments[i] = e;
-            plasma += retained;
-        }
+        let compartments = array::from_fn(|i| compartment_divisor(&rates, i));
+        let kept = (0..COMPARTMENTS).map(|i| retained(&rates, i)).sum::<u64>();
+        let plasma = UNIT + rates.urine + kept;
         let divisors = Divisors {
             compartments,
             plasma,

@@ -33,7 +33,7 @@ const FAECES_AT: usize = 1;
 
 const SKIN_AT: usize = 2;
 
-// A child. Lead and ledgers are in pg.
+// A child. Lead and ledgers are in pg, in lists by place as the definitions have them: the burden is the sum over one.
 #[derive(Clone, Copy, Debug, Default, PartialEq, Eq)]
 pub struct State {
     pub month: u64,
@@ -41,7 +41,7 @@ pub struct State {
     pub ledgers: [u64; 3], // what has left by urine, by faeces, by skin, hair and nails
 }
 
-// The divisors of a month's rates, in units of 1/D, computed once for all its steps.
+// The divisors of a month's rates, in units of 1/D, computed once for all its steps. A list of six, as each of the two lists of rates is.
 #[derive(Clone, Copy, Debug, PartialEq, Eq)]
 pub struct Divisors {
     pub compartments: [u64; 6], // E1 to E6

@@ -39,15 +39,12 @@ impl Step<'_> {
             / self.month.divisors.compartments[i]
     }
 
-    // Point 1: n. The compartments go by number, as what each returns does.
+    // Point 1: n.
     fn inflow(&self) -> u64
         ensures { Is (inflow self.now.month.now.rates self.now.state.now.lead self.now.uptake) burden_limit result }
     {
-        let mut inflow = self.state.lead[PLASMA_AT] + self.uptake;
-        for i in 0..COMPARTMENTS {
-            inflow += self.returned(i);
-        }
-        inflow
+        let returned = (0..COMPARTMENTS).map(|i| self.returned(i)).sum::<u64>();
+        self.state.lead[PLASMA_AT] + self.uptake + returned
     }
 
     // Point 1: p (B-8).

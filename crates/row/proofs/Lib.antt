@@ -1,2 +1,4 @@
+pub mod FromFn
+pub mod RangeTests
 pub mod RowTests
 pub mod RowWithin

@@ -36,16 +36,12 @@ impl Rates {
         }
     }
 
-    // Is each b + c at most D? Tried with `all` over the list and its places, and the proof did not close.
+    // Is each b + c at most D?
+    #[tactic(auto, unfolding(crate::specs::Row::returns_fit, numbers::specs::Choice::every))]
     fn returns_fit(&self) -> bool
         ensures { result ≡ returns_fit self.now }
     {
-        for i in 0..self.back.len() {
-            if self.back[i].saturating_add(self.exit(i)) > UNIT {
-                return false;
-            }
-        }
-        true
+        (0..self.back.len()).all(|i| self.back[i].saturating_add(self.exit(i)) <= UNIT)
     }
 
     // What leaves plasma: a1 + .. + a6 + au, or the most that 64 bits hold.
@@ -101,15 +97,10 @@ impl Row {
     }
 }
 
-// Are the five rows from `first` within their limits? A list, as in `row_at`. Tried with `all` over the months, and the proof did not close.
+// Are the five rows from `first` within their limits? A list, as in `row_at`.
 pub fn rows_fit(table: &[u32], first: usize) -> bool
     requires { numbers_a_row * (first + rows_a_block) ≤ length table.now }
     ensures { result ≡ rows_fit table.now first }
 {
-    for month in first..first + BLOCK_ROWS {
-        if !table::row_at(table, month).fits() {
-            return false;
-        }
-    }
-    true
+    (first..first + BLOCK_ROWS).all(|month| table::row_at(table, month).fits())
 }

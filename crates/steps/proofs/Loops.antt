@@ -128,9 +128,6 @@ module _ (rates : State → Rates) where
 
 -- a day of s steps from a that absorb t
 module _ {rates : State → Rates} {a : State} {s t more : ℕ} (steppable : Steppable rates a s t more) where
-  pub day_start : Ahead rates a (day_shares s t) a (shares_from s t 0 (s - 0))
-  day_start = rw sub-zero (ahead_start rates a (day_shares s t) steppable.held)
-
   -- at step k the state is b
   module _ {b : State} (k : ℕ) (now : Ahead rates a (day_shares s t) b (shares_from s t k (s - k))) where
     no_share_ahead : s ≤ k → Ahead rates a (day_shares s t) b []
@@ -173,9 +170,6 @@ module _ {rates : State → Rates} {a : State} {s t more : ℕ} (steppable : Ste
 
 -- a month of thirty such days
 module _ {rates : State → Rates} {a : State} {s t : ℕ} (steppable : Steppable rates a s t month_uptake_limit) where
-  pub month_start : Ahead rates a (days_shares s t days_a_month) a (days_shares s t days_a_month)
-  month_start = ahead_start rates a (days_shares s t days_a_month) steppable.held
-
   -- at day d the state is b
   module _ {b : State} (d : ℕ) (now : Ahead rates a (days_shares s t days_a_month) b (days_shares s t (days_a_month - d))) where
     no_day_ahead : days_a_month ≤ d → days_shares s t (days_a_month - d) ≡ []

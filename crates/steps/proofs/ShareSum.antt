@@ -35,7 +35,3 @@ module _ (s T : ℕ) (pos : 0 < s) where
 
 pub share_law : ShareLaws
 share_law s T pos = record { total = shares_absorbed s T pos s ∙ absorbed_whole s T pos; each = share_of_le s T pos }
-
--- the products of a share fit 64 bits
-pub share_fits : {t k : ℕ} → t ≤ 6_000_000_000 → k ≤ 1_000_000_000 → t * k ≤ 6_000_000_000_000_000_000
-share_fits h l = mul-le-mul h l

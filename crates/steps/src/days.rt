@@ -1,4 +1,5 @@
-// The steps of a month, up to the first that is refused. s and t are the letters of the definitions: the steps of a day, and its uptake.
+// The steps of a month, up to the first that is refused. s and t are the letters of the definitions: the steps of a day, and its uptake. They go together
+// as two numbers and not as a struct, since they come from two places: how many steps a day has is a constant of `child`, and t is a figure of the month.
 ghost use Rattle.std.specs.Prelude.{◌*◌};
 ghost use Rattle.state.specs.State.{month_uptake_limit};
 ghost use Rattle.steps.specs.Steps.{days_a_month, day_shares, days_shares};

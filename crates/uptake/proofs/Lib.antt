@@ -1,5 +1,6 @@
-pub mod Loops
-pub mod PartLoops
+pub mod Absorbed
+pub mod DayRoutes
+pub mod ListSums
 pub mod PassedIntakes
 pub mod RouteSums
 pub mod UptakeBounds

@@ -21,7 +21,7 @@ use Rattle.uptake.specs.Laws.{day_limit, routes_limit, RoutesLaw, RouteSumsLaw}
 use Rattle.uptake.proofs.UptakeBounds.{medium_most, air_law}
 
 -- the sum of five parts that are stored
-sum_stored : (f : ℕ → ℕ) → route_sum (tab 5 f) ≡ sum_to 5 f
+pub sum_stored : (f : ℕ → ℕ) → route_sum (tab 5 f) ≡ sum_to 5 f
 unfolding route_sum
 sum_stored f = sum_eq 5 (at (tab 5 f)) f (get_or-tab 5 f)
 

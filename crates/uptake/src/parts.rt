@@ -1,34 +1,47 @@
 // The day's uptake by its routes (U-1 to U-4).
-ghost use Rattle.uptake.specs.Internal.{IsDayRoutes};
+ghost use Rattle.std.specs.Prelude.{◌≡◌, ◌≤◌, ◌<◌};
+ghost use Rattle.uptake.specs.Uptake.{absorbable, passive_uptake};
+ghost use Rattle.uptake.specs.Internal.{active_by, IsDayRoutes};
+ghost use Rattle.numbers.specs.Bounds.{Is};
 
 use crate::Routes;
-use crate::day::{absorbable_of, active_part, percent_of, saturation_of};
+use crate::absorbable::Absorbable;
+use crate::day::{active_part, percent_of, saturation_of};
 use crate::weights::BodyWeights;
-use exposure::MEDIA;
 use intake::passed::PassedIntakes;
+use std::array;
 
-// The day's uptake by its routes: of each eaten medium the passive part (U-1) and the active part of the rest, and of air (U-4).
-// By number: four lists meet at each medium, and a `zip` of them is no plainer.
-#[tactic(auto, using(crate::proofs::Loops::stored_most, crate::proofs::Loops::stored_total_most))]
+impl Absorbable<'_> {
+    // The passive part of a medium's uptake (U-1).
+    #[tactic(auto, using(crate::proofs::Absorbed::stored_is, crate::proofs::Absorbed::stored_most), unfolding(crate::specs::Uptake::passive_uptake))]
+    fn passive(&self, medium: usize) -> u64
+        requires { medium < 5 }
+        ensures { Is (passive_uptake self.now.exposure.now.exposure medium) (absorbable self.now.exposure.now.exposure medium) result }
+    {
+        percent_of(self.exposure.exposure.passive[medium], self.media[medium])
+    }
+
+    // The active part, of what of its q does not pass passively.
+    #[tactic(auto, using(crate::proofs::Absorbed::stored_is, crate::proofs::Absorbed::stored_most, crate::proofs::Absorbed::stored_total_most))]
+    fn active(&self, saturation: u64, medium: usize) -> u64
+        requires saturation { (0 < saturation) × (saturation ≤ 12_500_000_000) }
+        requires within { medium < 5 }
+        ensures { result ≡ active_by self.now.exposure.now.exposure saturation medium }
+    {
+        let rest = self.media[medium] - self.passive(medium);
+        active_part(rest, saturation, self.total)
+    }
+}
+
+// The day's uptake by its routes: of each eaten medium the passive and the active part, and of air (U-4).
 pub fn day_routes(passed: &PassedIntakes, weights: BodyWeights) -> Routes
     ensures { IsDayRoutes passed.now.exposure.now.exposure weights.month weights.month24 result }
 {
-    let exposure = &passed.exposure.exposure;
     let saturation = saturation_of(passed.exposure, weights);
-    let absorbable = absorbable_of(passed);
-    let media = absorbable.media;
-    let total = absorbable.total;
-    let percents = &exposure.passive;
-    let mut passive = [0; MEDIA];
-    let mut active = [0; MEDIA];
-    for medium in 0..MEDIA {
-        let q = media[medium];
-        let part = percent_of(percents[medium], q);
-        let rest = q - part;
-        passive[medium] = part;
-        active[medium] = active_part(rest, saturation, total);
-    }
-    let air = percent_of(exposure.air_absorption, passed.intakes.air);
+    let absorbable = Absorbable::new(passed);
+    let passive = array::from_fn(|medium| absorbable.passive(medium));
+    let active = array::from_fn(|medium| absorbable.active(saturation, medium));
+    let air = percent_of(passed.exposure.exposure.air_absorption, passed.intakes.air);
     Routes {
         passive,
         active,

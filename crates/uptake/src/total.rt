@@ -1,4 +1,4 @@
-// The sum of a gut route, and T, the sum of all (U-5).
+// The sum over the eaten media, and T, the sum of all (U-5).
 ghost use Rattle.uptake.specs.Routes.{route_sum, routes_total};
 ghost use Rattle.uptake.specs.Internal.{PartsLimits, RoutesLimits};
 ghost use Rattle.uptake.specs.Laws.{day_limit, routes_limit};
@@ -7,7 +7,7 @@ ghost use Rattle.numbers.specs.Bounds.{Is};
 use crate::Routes;
 use exposure::MEDIA;
 
-// A gut route's sum: its parts of the five eaten media.
+// The sum over the five eaten media: of a gut route's parts, or of the q.
 pub fn route_sum(parts: &[u64; MEDIA]) -> u64
     requires { PartsLimits parts.now }
     ensures { Is (route_sum parts.now) routes_limit result }

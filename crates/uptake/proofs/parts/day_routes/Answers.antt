@@ -1,14 +1,12 @@
--- `uptake::parts::day_routes` meets its contract. The loop's invariant: both parts of the media passed are stored.
+-- `uptake::parts::day_routes` meets its contract: each list has its part of each medium.
+use Rattle.std.proofs.Common.{◌≡◌, rules}
+use Rattle.numbers.specs.Choice.{tab}
+use Rattle.row.proofs.FromFn.{from_fn_is}
+use Rattle.uptake.specs.Uptake.{passive_uptake}
+use Rattle.uptake.specs.Internal.{active_by}
 use Rattle.uptake.proofs.PassedIntakes.{passed_air}
-use Rattle.uptake.proofs.PartLoops.{parted_none, parted_next, routes_all}
-use Rattle.uptake.proofs.RouteSums.{routes_limits}
+use Rattle.uptake.proofs.DayRoutes.{routes_are}
 use Rattle.uptake.proofs.parts.day_routes.Goals as goal
-
-pub loop-medium-init : goal.loop-medium-init
-loop-medium-init c = parted_none _ _ _ _
-
-pub loop-medium-preserved : goal.loop-medium-preserved
-loop-medium-preserved c = parted_next c.loop-medium.invariant c.loop-medium-test.true c.percent_of-part.ensures.value c.active_part.ensures.value
 
 pub percent_of-air-requires : goal.percent_of-air-requires
 percent_of-air-requires c =
@@ -19,7 +17,8 @@ pub returns : goal.returns
 returns c =
     let passed = c.args.passed.now in
     let weights = c.args.weights in
-    let value =
-    routes_all passed c.absorbable_of-absorbable.ensures weights.month weights.month24 c.saturation_of-saturation.ensures.value.value
-    c.percent_of-air.ensures.value c.loop-medium.invariant c.loop-medium-test.false in
-    record { value = value; limits = rw value (routes_limits passed.exposure.now.exposure weights.month weights.month24 passed.exposure.now.within passed.passed) }
+    let e = passed.exposure.now.exposure in
+    let sat = c.saturation_of-saturation.result in
+    let passive : c.from_fn-passive.result ≡ tab 5 (passive_uptake e) = from_fn_is _ _ 5 _ (λ i y q l k. search rules) c.from_fn-passive.ensures.items in
+    let active : c.from_fn-active.result ≡ tab 5 (active_by e sat) = from_fn_is _ _ 5 _ (λ i y q l k. search rules) c.from_fn-active.ensures.items in
+    routes_are passed weights.month weights.month24 c.saturation_of-saturation.ensures.value.value passive active c.percent_of-air.ensures.value

@@ -7,7 +7,7 @@ use Rattle.std.specs.List.{sum}
 use Rattle.uptake.specs.Routes.{route_sum}
 use Rattle.uptake.specs.Laws.{routes_limit}
 use Rattle.uptake.proofs.RouteSums.{sum_most}
-use Rattle.uptake.proofs.PartLoops.{sum_parts}
+use Rattle.uptake.proofs.ListSums.{sum_parts}
 use Rattle.uptake.proofs.total.route_sum.Goals as goal
 
 pub sum-requires-clause-fits : goal.sum-requires-clause-fits

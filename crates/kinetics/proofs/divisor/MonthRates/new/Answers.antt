@@ -1,24 +1,38 @@
--- `kinetics::divisor::MonthRates::new` meets its contract: the compartments done have their divisors.
-use Rattle.std.proofs.Common.{refl, arith}
-use Rattle.kinetics.proofs.Bounds.{out-back_fits, retained_is}
-use Rattle.kinetics.proofs.Divided.{divided_none, divided_next, divided_all, divisor_is}
+-- `kinetics::divisor::MonthRates::new` meets its contract: the list has each divisor, and what is retained is summed.
+use Rattle.std.proofs.Common.{◌≡◌, ◌+◌, ◌^◌, refl, arith, rules}
+use Rattle.std.proofs.lemmas.Iterator.{YieldsList-from_range, YieldsList-from_map}
+use Rattle.std.proofs.lemmas.Iterator.Adapters.{fits_from_length, at_most_from_yields_List, total_from_yields_List}
+use Rattle.numbers.specs.Choice.{tab}
+use Rattle.numbers.specs.Sums.{sum_to}
+use Rattle.numbers.proofs.Every.{get_or-tab}
+use Rattle.row.proofs.FromFn.{from_fn_is}
+use Rattle.kinetics.specs.Step.{compartment_divisor, retained, divisor}
+use Rattle.kinetics.proofs.Bounds.{retained-sum_most}
 use Rattle.kinetics.proofs.divisor.MonthRates.new.Goals as goal
+use Rattle.kinetics.proofs.divisor.MonthRates.new.Goals.{After-sum-kept}
 
-pub loop-i-init : goal.loop-i-init
-loop-i-init c = divided_none c.args.rates _ refl
+kept_is : (c : After-sum-kept) → c.sum-kept.result ≡ sum_to 6 (retained c.args.rates)
+unfolding sum_to
+kept_is c =
+    total_from_yields_List (λ a x. a + x) 0 c.sum-kept.result c.sum-kept.ensures.ran
+    (YieldsList-from_map _ (retained c.args.rates) (YieldsList-from_range 0 6 6 (cc) refl) c.map.ensures.closure (λ x r q k. search rules))
 
-pub overflow_mul-retained : goal.overflow_mul-retained
-overflow_mul-retained c = omega (arith, out-back_fits c.requires c.loop-i-test.true)
+pub sum-kept-requires-clause-fits : goal.sum-kept-requires-clause-fits
+sum-kept-requires-clause-fits c =
+    fits_from_length _ _ 6 (2 ^ 64) (at_most_from_yields_List (YieldsList-from_range 0 6 6 (cc) refl) (omega arith)) c.map.ensures.closure (omega arith) (λ x r q k. search rules)
 
-pub overflow_add-plasma-in-loop-i : goal.overflow_add-plasma-in-loop-i
-overflow_add-plasma-in-loop-i c =
-    let e = divisor_is c.args.rates c.loop-i.i c.exit.ensures in
-    omega (arith, c.loop-i.invariant.small, retained_is c.requires c.loop-i-test.true e)
-
-pub loop-i-preserved : goal.loop-i-preserved
-loop-i-preserved c =
-    let e = divisor_is c.args.rates c.loop-i.i c.exit.ensures in
-    divided_next c.loop-i.invariant c.loop-i-test.true e (retained_is c.requires c.loop-i-test.true e)
+pub overflow_add-plasma-2 : goal.overflow_add-plasma-2
+overflow_add-plasma-2 c = omega (arith, kept_is (goal.at.overflow_add-plasma-2 c).After-sum-kept, retained-sum_most c.requires)
 
 pub invariant_of-result : goal.invariant_of-result
-invariant_of-result c = record { limits = c.requires; of_rates = divided_all c.loop-i.invariant c.loop-i.auto.i-end c.loop-i-test.false }
+unfolding divisor
+invariant_of-result c =
+    let r = c.args.rates in
+    let each : c.from_fn-compartments.result ≡ tab 6 (compartment_divisor r) = from_fn_is _ _ 6 _ (λ i y q l k. search rules) c.from_fn-compartments.ensures.items in
+    record {
+      limits = c.requires;
+      of_rates = record {
+        compartments = λ i l. rw each (get_or-tab 6 (compartment_divisor r) i l);
+        plasma = omega (arith, kept_is (goal.at.invariant_of-result c).After-sum-kept);
+      };
+    }

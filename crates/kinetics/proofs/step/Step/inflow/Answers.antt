@@ -1,30 +1,29 @@
--- `kinetics::step::Step::inflow` meets its contract: the returns of the compartments done are added.
-use Rattle.std.proofs.Common.{◌≡◌, arith}
+-- `kinetics::step::Step::inflow` meets its contract: the six returns are summed, and added to what there is.
+use Rattle.std.proofs.Common.{◌≡◌, ◌+◌, ◌^◌, refl, arith, rules}
+use Rattle.std.proofs.lemmas.Iterator.{YieldsList-from_range, YieldsList-from_map}
+use Rattle.std.proofs.lemmas.Iterator.Adapters.{fits_from_length, at_most_from_yields_List, total_from_yields_List}
 use Rattle.numbers.specs.Sums.{sum_to}
-use Rattle.kinetics.specs.Step.{inflow}
 use Rattle.numbers.proofs.Bounds.{is}
-use Rattle.numbers.proofs.Sums.{sum-next}
-use Rattle.kinetics.specs.Step.{returned}
-use Rattle.kinetics.proofs.Bounds.{inflow_small, inflow_part}
+use Rattle.kinetics.specs.Step.{returned, inflow}
+use Rattle.kinetics.proofs.Bounds.{inflow_small}
 use Rattle.kinetics.proofs.step.Step.inflow.Goals as goal
+use Rattle.kinetics.proofs.step.Step.inflow.Goals.{After-sum-returned}
 
-pub loop-i-init : goal.loop-i-init
+returned_is : (c : After-sum-returned) → (let s = c.args.self.now in c.sum-returned.result ≡ sum_to 6 (returned s.month.now.rates s.state.now.lead))
 unfolding sum_to
-loop-i-init c = omega arith
-
-pub overflow_add-inflow-in-loop-i : goal.overflow_add-inflow-in-loop-i
-overflow_add-inflow-in-loop-i c =
+returned_is c =
     let s = c.args.self.now in
-    omega (arith, sum-next c.loop-i.i (returned s.month.now.rates s.state.now.lead), inflow_part s.ready c.loop-i-test.true)
+    total_from_yields_List (λ a x. a + x) 0 c.sum-returned.result c.sum-returned.ensures.ran
+    (YieldsList-from_map _ (returned s.month.now.rates s.state.now.lead) (YieldsList-from_range 0 6 6 (cc) refl) c.map.ensures.closure (λ x r q k. search rules))
 
-pub loop-i-preserved : goal.loop-i-preserved
-loop-i-preserved c =
-    let s = c.args.self.now in
-    omega (arith, sum-next c.loop-i.i (returned s.month.now.rates s.state.now.lead))
+pub sum-returned-requires-clause-fits : goal.sum-returned-requires-clause-fits
+sum-returned-requires-clause-fits c =
+    fits_from_length _ _ 6 (2 ^ 64) (at_most_from_yields_List (YieldsList-from_range 0 6 6 (cc) refl) (omega arith)) c.map.ensures.closure (omega arith) (λ x r q k. search rules)
+
+pub overflow_add-result-2 : goal.overflow_add-result-2
+unfolding inflow
+overflow_add-result-2 c = omega (arith, returned_is (goal.at.overflow_add-result-2 c).After-sum-returned, inflow_small c.args.self.now.ready)
 
 pub returns : goal.returns
 unfolding inflow
-returns c =
-    let six : c.loop-i.i ≡ 6 = omega arith in
-    let all = rw six at c.loop-i.invariant in
-    is all (inflow_small c.args.self.now.ready)
+returns c = is (omega (arith, returned_is (goal.at.returns c).After-sum-returned)) (inflow_small c.args.self.now.ready)
