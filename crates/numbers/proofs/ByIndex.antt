@@ -1,28 +1,28 @@
--- An array made by a function of the index is the list of the function's values.
+-- An array that `from_fn` makes is the list of what its closure gives at each number.
 -- Assumes nothing.
-use mathlib.Core.Path.{◌≡◌, sym, subst, ◌∙◌}
+use mathlib.Core.Path.{◌≡◌, refl, sym, ◌∙◌}
 use mathlib.Core.List.{List}
 use Prim.Native.Nat.{ℕ, zero, suc, ◌+◌, ◌≤◌, ◌<◌}
-use native.Mathlib.Decide.{ℕ_discrete}
+use native.Mathlib.Decide.{dec_lt}
 use native.Mathlib.Omega.{arith}
 use lib.ListN.{get_or}
+use denote.Param.Members.{Mut, Called}
 use Rattle.std.specs.Array.{IsFromFnResult, IsFromFnResultFrom}
-use Rattle.std.specs.Fn.{Called, Mut}
 use Rattle.numbers.specs.Choice.{tab}
 use Rattle.numbers.proofs.Every.{tab_is}
 
--- the closure answers h of the index, and stays as it is
-module _ {F : Type 0} (g : Mut F (ℕ × Unit {0}) ℕ) (h : ℕ → ℕ) (f : F)
-    (answers : (i y : ℕ) (q : F) → Called g f (i, tt) y q → (q ≡ f) × (y ≡ h i))
-  where
-    made-at : (ys : List ℕ) (i n k : ℕ) → IsFromFnResultFrom g f ys i n → i ≤ k → k < i + n → get_or ys k 0 ≡ h k
-    made-at ys i zero k made a b = let z : ⊥ = omega arith in absurd z
-    made-at ys i (suc n) k (q, y, element, called, rest) a b =
-        let answer = answers i y q called in
-        elim (ℕ_discrete k i) [
-          | yes same ↦ rw same (element.1 0 ∙ answer.1)
-          | no other ↦ made-at ys (i + 1) n k (subst (λ p. IsFromFnResultFrom g p ys (i + 1) n) answer.0 rest) (omega arith) (omega arith)
-        ]
+-- a call at each number below n gives h's value there, and leaves the closure f as it was
+module _ {F : Type 0} (g : Mut F (ℕ × Unit {0}) ℕ) (h : ℕ → ℕ) (n : ℕ) (f : F) (call : (i y : ℕ) (q : F) → i < n → Called g f (i, tt) y q → (q ≡ f) × (y ≡ h i)) where
+  at_each : (ys : List ℕ) (i m : ℕ) (p : F) → p ≡ f → i + m ≤ n → IsFromFnResultFrom g p ys i m → (k : ℕ) → i ≤ k → k < i + m → get_or ys k 0 ≡ h k
+  at_each ys i zero p same room e k a b = absurd (omega arith)
+  at_each ys i (suc m) p same room e k a b =
+      let called = rw same at (e.3) in
+      let here = call i e.1 e.0 (omega arith) called in
+      elim (dec_lt i k) [
+        | yes later ↦ at_each ys (i + 1) m e.0 here.0 (omega arith) e.4 k (omega arith) (omega arith)
+        | no now ↦ let at : k ≡ i = omega arith in rw at (e.2.1 0 ∙ here.1)
+      ]
 
-    pub tab_made : (n : ℕ) (ys : List ℕ) → IsFromFnResult g f ys n → ys ≡ tab n h
-    tab_made n ys made = sym (tab_is n h ys made.long (λ k below. sym (made-at ys 0 n k made.each (omega arith) (omega arith))))
+  pub from_fn_is : {ys : List ℕ} → IsFromFnResult g f ys n → ys ≡ tab n h
+  from_fn_is {ys} made =
+      sym (tab_is n h ys made.long (λ k l. sym (at_each ys 0 n f refl (omega arith) made.each k (omega arith) (omega arith))))

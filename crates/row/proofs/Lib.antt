@@ -1,4 +1,3 @@
-pub mod FromFn
 pub mod RangeTests
 pub mod RowTests
 pub mod RowWithin

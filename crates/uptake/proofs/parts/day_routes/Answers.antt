@@ -1,7 +1,7 @@
 -- `uptake::parts::day_routes` meets its contract: each list has its part of each medium.
 use Rattle.std.proofs.Common.{◌≡◌, rules}
 use Rattle.numbers.specs.Choice.{tab}
-use Rattle.row.proofs.FromFn.{from_fn_is}
+use Rattle.numbers.proofs.ByIndex.{from_fn_is}
 use Rattle.uptake.specs.Uptake.{passive_uptake}
 use Rattle.uptake.specs.Internal.{active_by}
 use Rattle.uptake.proofs.PassedIntakes.{passed_air}

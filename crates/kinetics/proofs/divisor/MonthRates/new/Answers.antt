@@ -1,25 +1,22 @@
 -- `kinetics::divisor::MonthRates::new` meets its contract: the list has each divisor, and what is retained is summed.
-use Rattle.std.proofs.Common.{◌≡◌, ◌+◌, ◌^◌, refl, arith, rules}
-use Rattle.std.proofs.lemmas.Iterator.{YieldsList-from_range, YieldsList-from_map}
-use Rattle.std.proofs.lemmas.Iterator.Adapters.{fits_from_length, at_most_from_yields_List, total_from_yields_List}
+use Rattle.std.proofs.Common.{◌≡◌, ◌^◌, arith, rules}
 use Rattle.numbers.specs.Choice.{tab}
 use Rattle.numbers.specs.Sums.{sum_to}
+use Rattle.numbers.proofs.ByIndex.{from_fn_is}
 use Rattle.numbers.proofs.Every.{get_or-tab}
-use Rattle.row.proofs.FromFn.{from_fn_is}
+use Rattle.numbers.proofs.RangeSums.{range_sum, range_fits}
 use Rattle.kinetics.specs.Step.{compartment_divisor, retained, divisor}
 use Rattle.kinetics.proofs.Bounds.{retained-sum_most}
 use Rattle.kinetics.proofs.divisor.MonthRates.new.Goals as goal
 use Rattle.kinetics.proofs.divisor.MonthRates.new.Goals.{After-sum-kept}
 
 kept_is : (c : After-sum-kept) → c.sum-kept.result ≡ sum_to 6 (retained c.args.rates)
-unfolding sum_to
-kept_is c =
-    total_from_yields_List (λ a x. a + x) 0 c.sum-kept.result c.sum-kept.ensures.ran
-    (YieldsList-from_map _ (retained c.args.rates) (YieldsList-from_range 0 6 6 (cc) refl) c.map.ensures.closure (λ x r q k. search rules))
+kept_is c = range_sum _ (retained c.args.rates) 6 c.map.ensures.source c.map.ensures.closure (λ x r q k. search rules) _ c.sum-kept.ensures.ran
 
 pub sum-kept-requires-clause-fits : goal.sum-kept-requires-clause-fits
 sum-kept-requires-clause-fits c =
-    fits_from_length _ _ 6 (2 ^ 64) (at_most_from_yields_List (YieldsList-from_range 0 6 6 (cc) refl) (omega arith)) c.map.ensures.closure (omega arith) (λ x r q k. search rules)
+    range_fits _ (retained c.args.rates) 6 c.map.ensures.source c.map.ensures.closure (λ x r q k. search rules) (2 ^ 64)
+    (omega (arith, retained-sum_most c.requires))
 
 pub overflow_add-plasma-2 : goal.overflow_add-plasma-2
 overflow_add-plasma-2 c = omega (arith, kept_is (goal.at.overflow_add-plasma-2 c).After-sum-kept, retained-sum_most c.requires)

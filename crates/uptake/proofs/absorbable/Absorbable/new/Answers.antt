@@ -1,7 +1,7 @@
 -- `uptake::absorbable::Absorbable::new` meets its contract: the list has the q of each medium, and its sum is A.
 use Rattle.std.proofs.Common.{◌≡◌, ◌∙◌, rules}
 use Rattle.numbers.specs.Choice.{tab}
-use Rattle.row.proofs.FromFn.{from_fn_is}
+use Rattle.numbers.proofs.ByIndex.{from_fn_is}
 use Rattle.uptake.specs.Uptake.{absorbable}
 use Rattle.uptake.proofs.Absorbed.{absorbable_sum}
 use Rattle.uptake.proofs.absorbable.Absorbable.new.Goals as goal
