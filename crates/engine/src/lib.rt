@@ -1,6 +1,6 @@
 // The engine: birth, the month call and the run, on site files, foods blocks and rate books of any length and content.
 // Each call reads its files by the same lines, as `survey`, `group` and `routes` do: the child borrows what they read, so no other function can hand it
-// out.
+// out. One that is handed what to do with the child, as a closure, would need a contract over the closure, and one at each call: no plainer than the lines.
 #![tactic(auto)]
 
 ghost use Rattle.std.specs.Prelude.{◌≡◌, length};
