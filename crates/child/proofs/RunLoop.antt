@@ -39,9 +39,6 @@ pub record InRun (call : State → MonthAnswer) (a : State) (l₀ l : List ℕ) 
   pub same : months_by call last_month a ≡ prefixed (take i l) (months_by call (last_month - i) b)
   pub rest : drop i l ≡ drop i l₀
 
-pub run_start : (call : State → MonthAnswer) (a : State) (l : List ℕ) → length l ≡ last_month → InRun call a l l a 0
-run_start call a l h = record { reach = omega arith; long = h; same = refl; rest = refl }
-
 module _ {call : State → MonthAnswer} {a b : State} {l₀ l : List ℕ} {i : ℕ} (inv : InRun call a l₀ l b i) where
   written-length : length (take i l) ≡ i
   written-length = length-take-le i l (omega (arith, inv.reach, inv.long))

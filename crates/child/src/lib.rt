@@ -19,7 +19,6 @@ use kinetics::State;
 use kinetics::divisor::MonthRates;
 use refusal::Refusal;
 use state::BURDEN_MOST;
-use uptake::weights::BodyWeights;
 
 pub mod booked; // booked.rt: what the rate book gives a month
 pub mod courses; // courses.rt: a child's course up to a month
@@ -113,15 +112,13 @@ impl BookedMonth {
         ensures { month_answer_in state.now result ≡ exposed_month steps_a_day state.now exposure.now.exposure self.now.row self.now.weight24 }
     {
         let passed = PassedIntakes::new(exposure)?;
-        let weights = BodyWeights {
-            month: self.row.body_weight,
-            month24: self.weight24,
-        };
+        let weights = self.body_weights();
         let t = uptake::day::day_uptake(&passed, weights);
         self.stepped_month(state, t)
     }
 
-    // The month of a child with this exposure: refusals 20, 21, 9, 22.
+    // The month of a child with this exposure: refusals 20, 21, 9, 22. `Accepted::month` is no call of it, since it has to check the state before it asks
+    // for the exposure: only the month after a checked state is one of the 84.
     fn given_month(&self, state: &State, exposure: &LimitedExposure) -> Result<MonthEnd, Refusal>
         ensures { month_answer_in state.now result ≡ given_month steps_a_day state.now exposure.now.exposure self.now.row self.now.weight24 }
     {

@@ -1,6 +1,5 @@
 // The months of a run.
-ghost use Rattle.std.specs.Prelude.{◌≡◌, length};
-ghost use Rattle.row.specs.Row.{last_month};
+ghost use Rattle.std.specs.Prelude.{◌≡◌};
 ghost use Rattle.steps.specs.Steps.{steps_a_day};
 ghost use Rattle.child.specs.Months.{run_answer, run_list};
 ghost use Rattle.child.specs.Outcomes.{run_answer_in};
@@ -23,10 +22,8 @@ pub struct Run {
 }
 
 impl Accepted<'_> {
-    // 84 months from a state, up to the first that is refused; the figure of each month done is written. It goes into the list that the run was
-    // lent, which is a slice, so its length is asked for.
-    pub fn months(&self, state: &State, blood: &mut [u32]) -> Run
-        requires { length blood.old ≡ last_month }
+    // 84 months from a state, up to the first that is refused; the figure of each month done is written.
+    pub fn months(&self, state: &State, blood: &mut [u32; MONTHS]) -> Run
         ensures value { run_answer_in result ≡ run_answer (child_run steps_a_day state.now self.now.scenario.now self.now.table.now) }
         ensures blood_after { blood.new ≡ run_list (child_run steps_a_day state.now self.now.scenario.now self.now.table.now) blood.old }
     {

@@ -1,6 +1,6 @@
 // The engine: birth, the month call and the run, on site files, foods blocks and rate books of any length and content.
 // Each call reads its files by the same lines, as `survey`, `group` and `routes` do: the child borrows what they read, so no other function can hand it
-// out.
+// out. One that is handed what to do with the child, as a closure, would need a contract over the closure, and one at each call: no plainer than the lines.
 #![tactic(auto)]
 
 ghost use Rattle.std.specs.Prelude.{◌≡◌, length};
@@ -16,7 +16,7 @@ ghost use Rattle.engine.specs.Internal.{started_in};
 use book::TABLE_NUMBERS;
 use child::MonthEnd;
 use child::given::Accepted;
-use child::months::{MONTHS, Run};
+use child::months::Run;
 use files::CallFiles;
 use kinetics::State;
 use refusal::Refusal;
@@ -55,10 +55,9 @@ fn started_run(files: &CallFiles, blood: &mut [u32]) -> Result<Run, Refusal>
     ensures blood_after { blood.new ≡ run_list (run_of steps_a_day (files_in files.now) (length blood.old)) blood.old }
 {
     files.check_lengths()?;
-    let places = blood.len();
-    if places != MONTHS {
+    let Some(figures) = blood.as_mut_array() else {
         return Err(Refusal::WrongListLength);
-    }
+    };
     let mut table = [0; TABLE_NUMBERS];
     let mut decodes = 0;
     let scenario = files.read(&mut table, &mut decodes)?; // after those of the lengths and of the list
@@ -67,7 +66,7 @@ fn started_run(files: &CallFiles, blood: &mut [u32]) -> Result<Run, Refusal>
         table: &table,
     };
     let child = accepted.birth()?;
-    Ok(accepted.months(&child, blood))
+    Ok(accepted.months(&child, figures))
 }
 
 // The run: birth and 84 months, the blood figure of each month done written into the lent list.

@@ -24,27 +24,27 @@ impl FoodsFigures {
         ensures { Is (grams_at self.now.figures age (place_of food)) most_grams result }
     {
         let place = places::FOODS * age + food.place();
-        self.figures[place] as u64
+        u64::from(self.figures[place])
     }
 
     // The lead of a food.
     pub fn lead_of(&self, food: Food) -> u64
         ensures { Is (lead_of self.now.figures (place_of food)) most_lead result }
     {
-        self.figures[places::LEADS_FROM + food.place()] as u64
+        u64::from(self.figures[places::LEADS_FROM + food.place()])
     }
 
     // The share of a local food.
     pub fn share_of(&self, local: LocalFood) -> u64
         ensures { Is (share_of self.now.figures (local_place local)) most_share result }
     {
-        self.figures[places::SHARES_FROM + local.place()] as u64
+        u64::from(self.figures[places::SHARES_FROM + local.place()])
     }
 
     // The lead of a local food.
     pub fn local_lead_of(&self, local: LocalFood) -> u64
         ensures { Is (local_lead_of self.now.figures (local_place local)) most_lead result }
     {
-        self.figures[places::LOCAL_LEADS_FROM + local.place()] as u64
+        u64::from(self.figures[places::LOCAL_LEADS_FROM + local.place()])
     }
 }

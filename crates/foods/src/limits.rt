@@ -24,7 +24,7 @@ pub fn shares_fit(figures: &[u32; FIGURES]) -> bool
     let game = figures[places::SHARES_FROM + LocalFood::Game.place()];
     let vegetable = figures[places::SHARES_FROM + LocalFood::Vegetable.place()];
     let fruit = figures[places::SHARES_FROM + LocalFood::Fruit.place()];
-    let caught = fish as u64 + game as u64;
+    let caught = u64::from(fish) + u64::from(game);
     caught <= CAUGHT_MOST && vegetable <= SHARE_MOST && fruit <= SHARE_MOST
 }
 

@@ -2,12 +2,12 @@
 -- Assumes nothing.
 use Prim.Native.Nat.{ℕ, suc, ◌+◌, ◌≤◌, ◌<◌, min}
 use mathlib.Core.Path.{◌≡◌, refl, sym, ap, ◌∙◌}
-use mathlib.Core.List.{List, map}
+use mathlib.Core.List.{List, ◌++◌, map}
 use native.Mathlib.Omega.{arith}
-use lib.ListN.{replicate, get_or, set, get_or-replicate, get_or-map, length-replicate, length-map}
+use lib.ListN.{replicate, get_or, set, take, get_or-replicate, get_or-map, get_or-append, length-replicate, length-map, length-take, length-append}
 use Rattle.std.proofs.Common.{Result, Ok, Err}
-use Rattle.std.proofs.lemmas.List.{map-set}
-use Rattle.numbers.proofs.Turns.{AllBy, Turned, turn_next}
+use Rattle.std.proofs.lemmas.List.{map-set, get_or-take}
+use Rattle.numbers.proofs.Turns.{AllBy, Turned, turn_start, turn_next, turn_end}
 use Rattle.refusal.specs.declared.Refusal.{Refusal}
 use Rattle.site.specs.declared.Scenario.{Scenario}
 use Rattle.exposure.specs.declared.Exposure.{Exposure}
@@ -132,3 +132,24 @@ module _ (s : ℕ) (scenario : Scenario) (table roll : List ℕ) (n done : ℕ) 
       rw (map-set course_in courses i next)
       (turn_next _ _ _ _ _ _ _ h
       (λ here. goes (sym (get_or-map course_in courses i no_course) ∙ here ∙ ap (λ y. course_by s scenario table y done) (sym ex)) ∙ ap (λ y. course_by s scenario table y (done + 1)) ex) turned)
+
+-- the rows that there are are a part of the list of courses: as it is lent, and when it is back
+module _ {n : ℕ} {f g : ℕ → Course} where
+  pub part_lent : (courses : List code.Course) → AllBy (course_in no_course) n f (map course_in courses) → Turned (course_in no_course) n f g (map course_in (take n courses)) 0
+  part_lent courses all =
+      turn_start _ _ f g (map course_in (take n courses))
+      (record {
+        room = omega (arith, length-map (take n courses) course_in, length-take n courses, length-map courses course_in, all.room);
+        each = λ i h.
+            get_or-map course_in (take n courses) i no_course ∙ ap course_in (get_or-take n courses i no_course h) ∙ sym (get_or-map course_in courses i no_course) ∙ all.each i h;
+      })
+
+  pub part_back : {i : ℕ} → n ≤ i → (part rest : List code.Course) → Turned (course_in no_course) n f g (map course_in part) i → AllBy (course_in no_course) n g (map course_in (part ++ rest))
+  part_back {i} h part rest turned =
+      let all = turn_end _ _ f g (map course_in part) i h turned in
+      record {
+        room = omega (arith, length-map (part ++ rest) course_in, length-append part rest, length-map part course_in, all.room);
+        each = λ j k.
+            get_or-map course_in (part ++ rest) j no_course ∙ ap course_in (get_or-append part rest no_course j (omega (arith, length-map part course_in, all.room)))
+            ∙ sym (get_or-map course_in part j no_course) ∙ all.each j k;
+      }

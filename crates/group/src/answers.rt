@@ -20,7 +20,7 @@ enum Kind {
     Refused = 2,
 }
 
-// The words of an answer.
+// The words of an answer. No `From`, since neither an answer, which is a `Result`, nor an array of words is this crate's own type.
 fn words_of(answer: RowAnswer) -> [u32; ANSWER_WORDS]
     ensures { result ≡ answer_words (answer_read answer) }
 {

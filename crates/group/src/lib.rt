@@ -47,8 +47,7 @@ fn answer_of(start: &RowStart, course: &Course) -> RowAnswer
 }
 
 // What the rows of a roll answer over accepted files: all are run to a month, whose exposure and row they share, before any goes on to the next. The
-// courses stand here alone, since a list of them that is handed out would lie on the stack twice. The loops go by a row's number: the rows that there are
-// may be fewer than a list's places.
+// courses stand here alone, since a list of them that is handed out would lie on the stack twice.
 fn row_answers(files: ReadyFiles, roll: &Roll) -> [RowAnswer; GROUP_ROWS]
     ensures { answers_read (min roll.now.count rows_a_group) result ≡ map (start_answer steps_a_day files.entry.scenario.now files.entry.table.now) (starts_in (min roll.now.count rows_a_group) roll.now.words) }
 {
@@ -56,13 +55,13 @@ fn row_answers(files: ReadyFiles, roll: &Roll) -> [RowAnswer; GROUP_ROWS]
     let mut courses = [birth; GROUP_ROWS];
     for done in 0..courses::last_month(roll) {
         let month = SharedMonth::after(files, done);
-        for i in 0..roll.rows() {
-            courses[i] = month.row_course(&roll.start_at(i), &courses[i]);
+        for (i, course) in courses[..roll.rows()].iter_mut().enumerate() {
+            *course = month.row_course(&roll.start_at(i), course);
         }
     }
     let mut answers = [Ok(None); GROUP_ROWS];
-    for row in 0..roll.rows() {
-        answers[row] = answer_of(&roll.start_at(row), &courses[row]);
+    for (row, answer) in answers[..roll.rows()].iter_mut().enumerate() {
+        *answer = answer_of(&roll.start_at(row), &courses[row]);
     }
     answers
 }

@@ -46,11 +46,7 @@ fn sums_in(accepted: &Accepted, month: u64) -> RouteSums
 {
     let exposure = accepted.exposure(month);
     let booked = accepted.booked(month);
-    let weights = BodyWeights {
-        month: booked.row.body_weight,
-        month24: booked.weight24,
-    };
-    exposed_sums(&exposure, weights)
+    exposed_sums(&exposure, booked.body_weights())
 }
 
 // The sums of each month's day; zeros in a month whose intakes 9 refuses, and in every month of refused files. Files are read here as in `engine`: what

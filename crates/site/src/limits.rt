@@ -130,6 +130,7 @@ fn none_above(figures: &[u32], limits: &[u32]) -> bool
 pub fn fields_fit(fields: &[u32; places::FIELDS]) -> bool
     ensures { result ≡ fields_fit fields.now }
 {
-    let shares = fields[places::FIRST_DRAW_SHARE] as u64 + fields[places::FOUNTAIN_SHARE] as u64;
+    let shares = u64::from(fields[places::FIRST_DRAW_SHARE])
+        + u64::from(fields[places::FOUNTAIN_SHARE]);
     within_limits(fields) && fields[places::SATURATION] >= SATURATION_LEAST && shares <= SHARES_MOST
 }

@@ -1,5 +1,7 @@
 -- `engine::started_run` meets its contract: refused by a length, its list, its files or birth, or the months.
 use mathlib.Core.Path.{refl, sym, ◌∙◌}
+use native.Mathlib.Omega.{arith}
+use Rattle.std.proofs.lemmas.Bool.{false≢true}
 use Rattle.std.proofs.lemmas.Result.{err_from_is_err_and}
 use Rattle.refusal.specs.declared.Refusal.TheVariants.{WrongListLength}
 use Rattle.steps.specs.Steps.{steps_a_day}
@@ -14,17 +16,17 @@ returns-in_err-check_lengths c =
     let whole = run_refused steps_a_day (files_in c.args.files.now) c.args.blood.now _ (lengths_refuse _ _ _ c.in_err-check_lengths.ensures) in
     record { value = rw (p.1, p.2) whole.0; blood_after = whole.1 }
 
-pub returns-then-places-ne-MONTHS : goal.returns-then-places-ne-MONTHS
-returns-then-places-ne-MONTHS c =
-    let whole = run_refused steps_a_day (files_in c.args.files.now) c.args.blood.now WrongListLength (list_refuses _ _ c.in_ok-check_lengths.ensures c.if-places-ne-MONTHS.true) in
+pub returns-in_default : goal.returns-in_default
+returns-in_default c =
+    let whole = run_refused steps_a_day (files_in c.args.files.now) c.args.blood.now WrongListLength (list_refuses _ _ c.in_ok-check_lengths.ensures (λ e. false≢true (c.in_default.ensures.variant.1 (omega (arith, e))))) in
     record { value = whole.0; blood_after = whole.1 }
 
 pub returns-in_err-scenario : goal.returns-in_err-scenario
 returns-in_err-scenario c =
     let p = err_from_is_err_and c.from_residual-in_err-scenario.result c.from_residual-in_err-scenario.ensures.1 in
-    let number = files_refuse _ _ c.in_ok-check_lengths.ensures c.if-places-ne-MONTHS.false _ c.in_err-scenario.ensures.refusal in
+    let number = files_refuse _ _ c.in_ok-check_lengths.ensures (c.in-Some.ensures.variant.0 refl) _ c.in_err-scenario.ensures.refusal in
     let whole = run_refused steps_a_day (files_in c.args.files.now) c.args.blood.now _ number in
-    record { value = rw (p.1, p.2) whole.0; blood_after = whole.1 }
+    record { value = rw (p.1, p.2) whole.0; blood_after = c.in-Some.ensures.cases.same ∙ whole.1 }
 
 pub invariant_of-accepted : goal.invariant_of-accepted
 invariant_of-accepted c = record { decoded = files_read_decoded c.in_ok-scenario.ensures refl }
@@ -33,14 +35,14 @@ pub returns-in_err-child : goal.returns-in_err-child
 returns-in_err-child c =
     let p = err_from_is_err_and c.from_residual-in_err-child.result c.from_residual-in_err-child.ensures.1 in
     let number =
-    birth_number _ (c.in_err-child.ensures ∙ birth_files_read c.in_ok-scenario.ensures refl) ∙ sym (start_by_birth _ _ c.in_ok-check_lengths.ensures c.if-places-ne-MONTHS.false)
+    birth_number _ (c.in_err-child.ensures ∙ birth_files_read c.in_ok-scenario.ensures refl) ∙ sym (start_by_birth _ _ c.in_ok-check_lengths.ensures (c.in-Some.ensures.variant.0 refl))
     in
     let whole = run_refused steps_a_day (files_in c.args.files.now) c.args.blood.now _ number in
-    record { value = rw (p.1, p.2) whole.0; blood_after = whole.1 }
+    record { value = rw (p.1, p.2) whole.0; blood_after = c.in-Some.ensures.cases.same ∙ whole.1 }
 
 pub returns : goal.returns
 returns c =
     let born = c.in_ok-child.ensures ∙ birth_files_read c.in_ok-scenario.ensures refl in
-    let starts = birth_number _ born ∙ sym (start_by_birth _ _ c.in_ok-check_lengths.ensures c.if-places-ne-MONTHS.false) in
-    let whole = run_months c.in_ok-scenario.ensures refl steps_a_day c.args.blood.now starts born (c.months.ensures.value, c.months.ensures.blood_after) in
+    let starts = birth_number _ born ∙ sym (start_by_birth _ _ c.in_ok-check_lengths.ensures (c.in-Some.ensures.variant.0 refl)) in
+    let whole = run_months c.in_ok-scenario.ensures refl steps_a_day c.args.blood.now starts born (c.months.ensures.value, rw c.in-Some.ensures.cases.same at c.months.ensures.blood_after) in
     record { value = whole.0; blood_after = whole.1 }

@@ -13,11 +13,11 @@ use Rattle.group.proofs.row_answers.Given as goal
 
 abbrev pub invariant-loop-i : goal.invariant-loop-i
 invariant-loop-i l =
-    Turned (course_in no_course) (min l.roll.count rows_a_group) (courses_at steps_a_day l.files.scenario.now l.files.table.now l.roll.words l.done) (courses_at steps_a_day l.files.scenario.now l.files.table.now l.roll.words (l.done + 1)) (map course_in l.courses) l.i
+    Turned (course_in no_course) (min l.roll.count rows_a_group) (courses_at steps_a_day l.files.scenario.now l.files.table.now l.roll.words l.done) (courses_at steps_a_day l.files.scenario.now l.files.table.now l.roll.words (l.done + 1)) (map course_in l.course-items) l.i
 
 abbrev pub invariant-loop-done : goal.invariant-loop-done
 invariant-loop-done l = AllBy (course_in no_course) (min l.roll.count rows_a_group) (courses_at steps_a_day l.files.scenario.now l.files.table.now l.roll.words l.done) (map course_in l.courses)
 
 abbrev pub invariant-loop-row : goal.invariant-loop-row
 invariant-loop-row l =
-    (length l.answers ≡ rows_a_group) × (answers_read l.row l.answers ≡ map (start_answer steps_a_day l.fn.files.scenario.now l.fn.files.table.now) (starts_in l.row l.roll.words))
+    (length l.answer-items ≡ min l.roll.count rows_a_group) × (answers_read l.row l.answer-items ≡ map (start_answer steps_a_day l.fn.files.scenario.now l.fn.files.table.now) (starts_in l.row l.roll.words))

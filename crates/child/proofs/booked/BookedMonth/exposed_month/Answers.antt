@@ -18,6 +18,6 @@ returns c =
     let e = c.args.exposure.now.exposure in
     let b = c.args.self.now in
     let uptake_is : c.day_uptake-t.result ≡ day_uptake e b.row.body_weight b.weight24 =
-    c.day_uptake-t.ensures.value ∙ ap (λ (x : LimitedExposure). day_uptake x.exposure b.row.body_weight b.weight24) c.in_ok-passed.ensures.same
+    rw (c.body_weights-weights.ensures.month, c.body_weights-weights.ensures.month24) at c.day_uptake-t.ensures.value ∙ ap (λ (x : LimitedExposure). day_uptake x.exposure b.row.body_weight b.weight24) c.in_ok-passed.ensures.same
     in
     exposed_stepped steps_a_day c.args.state.now e b.row b.weight24 (sym c.in_ok-passed.ensures.number) uptake_is c.stepped_month.ensures
