@@ -3,31 +3,17 @@ ghost use Rattle.std.specs.Prelude.{◌≡◌, ◌+◌, ◌*◌, ◌≤◌, leng
 ghost use Rattle.row.specs.Row.{numbers_a_row, row_from, row_of};
 
 use super::{Rates, Row, places};
+use std::array;
 
 // The row of 23 numbers.
 impl From<[u64; places::ROW_NUMBERS]> for Row {
     ghost from_gives = { λ numbers row. row ≡ row_from numbers };
 
     fn from(numbers: [u64; places::ROW_NUMBERS]) -> Row {
-        // Each rate by its place: tried with `array::from_fn`, and the proof did not close.
         let rates = Rates {
-            out: [
-                numbers[places::OUT],
-                numbers[places::OUT + 1],
-                numbers[places::OUT + 2],
-                numbers[places::OUT + 3],
-                numbers[places::OUT + 4],
-                numbers[places::OUT + 5],
-            ],
+            out: array::from_fn(|i| numbers[places::OUT + i]),
             urine: numbers[places::URINE],
-            back: [
-                numbers[places::BACK],
-                numbers[places::BACK + 1],
-                numbers[places::BACK + 2],
-                numbers[places::BACK + 3],
-                numbers[places::BACK + 4],
-                numbers[places::BACK + 5],
-            ],
+            back: array::from_fn(|i| numbers[places::BACK + i]),
             faeces: numbers[places::FAECES],
             skin: numbers[places::SKIN],
         };
