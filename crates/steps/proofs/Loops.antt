@@ -73,8 +73,6 @@ module _ (rates : State → Rates) where
     pub refusal : steps_refusal rates a us ≡ steps_refusal rates b vs
     pub last : last_from rates a us ≡ last_from rates b vs
 
-  ahead_start : (a : State) (us : List ℕ) → burden a.lead ≤ burden_limit → Ahead a us a us
-  ahead_start a us h = record { held = h; all = refl; refusal = refl; last = refl }
 
   ahead_end : {a b : State} {us : List ℕ} → Ahead a us b [] → {t : ℕ} → sum_of us ≡ t → ReachedBy rates a us t (Ok b)
   unfolding steps_refusal last_from

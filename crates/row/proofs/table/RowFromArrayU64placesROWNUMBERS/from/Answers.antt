@@ -1,7 +1,7 @@
 -- The row of 23 numbers is put together as the definition has it: the six rates from OUT and from BACK on are lists by their places.
 use Rattle.std.proofs.Common.{◌≡◌, ◌+◌, ℕ, get_or, rules}
 use Rattle.numbers.specs.Choice.{tab}
-use Rattle.row.proofs.FromFn.{from_fn_is}
+use Rattle.numbers.proofs.ByIndex.{from_fn_is}
 use Rattle.row.proofs.table.RowFromArrayU64placesROWNUMBERS.from.Goals as goal
 
 pub returns : goal.returns
