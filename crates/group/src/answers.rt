@@ -48,6 +48,7 @@ impl GroupAnswers {
     }
 
     // Puts the answers' words in front, a pair for each row, and keeps the places past them.
+    // By number: tried with `chunks_exact_mut` and `zip`, and the proof did not close, since a loop over lent pairs has no word for the list that they are of.
     pub fn put_words(&self, words: &mut [u32; WORDS])
         ensures { words.new ≡ answered (answers_read self.now.count self.now.rows) words.old }
     {
