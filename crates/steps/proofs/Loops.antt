@@ -73,7 +73,6 @@ module _ (rates : State → Rates) where
     pub refusal : steps_refusal rates a us ≡ steps_refusal rates b vs
     pub last : last_from rates a us ≡ last_from rates b vs
 
-
   ahead_end : {a b : State} {us : List ℕ} → Ahead a us b [] → {t : ℕ} → sum_of us ≡ t → ReachedBy rates a us t (Ok b)
   unfolding steps_refusal last_from
   ahead_end now e =
