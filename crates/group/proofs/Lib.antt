@@ -1,3 +1,4 @@
+pub mod LastMonths
 pub mod GroupCourses
 pub mod AnswerWords
 pub mod GroupAnswers

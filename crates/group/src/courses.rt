@@ -29,11 +29,10 @@ fn until(start: &RowStart) -> u64
 pub fn last_month(roll: &Roll) -> u64
     ensures { LastMonth roll.now.words (min roll.now.count rows_a_group) result }
 {
-    let mut last = 0;
-    for i in 0..roll.rows() {
-        last = until(&roll.start_at(i)).max(last);
-    }
-    last
+    (0..roll.rows())
+        .map(|i| until(&roll.start_at(i)))
+        .max()
+        .unwrap_or(0)
 }
 
 impl<'a> SharedMonth<'a> {
