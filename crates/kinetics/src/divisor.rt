@@ -18,24 +18,31 @@ pub struct MonthRates {
     pub ghost of_rates: { DivisorsOf rates divisors },
 }
 
-// E of compartment i.
-#[tactic(auto, unfolding(crate::specs::Step::compartment_divisor))]
-fn compartment_divisor(rates: &Rates, i: usize) -> u64
-    requires limits { RateLimits rates.now }
-    requires within { i < 6 }
-    ensures { result ≡ compartment_divisor rates.now i }
-{
-    UNIT + rates.back[i] + rates.exit(i)
+// A month's rates, within their limits.
+#[derive(Clone, Copy)]
+struct LimitedRates<'a> {
+    rates: &'a Rates,
+    ghost limits: { RateLimits rates.now },
 }
 
-// What of a of compartment i does not come back within the step.
-fn retained(rates: &Rates, i: usize) -> u64
-    requires limits { RateLimits rates.now }
-    requires within { i < 6 }
-    ensures { Is (retained rates.now i) 6_400_000_000 result }
-{
-    let a = rates.out[i];
-    a - a * rates.back[i] / compartment_divisor(rates, i)
+impl LimitedRates<'_> {
+    // E of compartment i.
+    #[tactic(auto, unfolding(crate::specs::Step::compartment_divisor))]
+    fn divisor(&self, i: usize) -> u64
+        requires { i < 6 }
+        ensures { result ≡ compartment_divisor self.now.rates.now i }
+    {
+        UNIT + self.rates.back[i] + self.rates.exit(i)
+    }
+
+    // What of a of compartment i does not come back within the step.
+    fn retained(&self, i: usize) -> u64
+        requires { i < 6 }
+        ensures { Is (retained self.now.rates.now i) 6_400_000_000 result }
+    {
+        let a = self.rates.out[i];
+        a - a * self.rates.back[i] / self.divisor(i)
+    }
 }
 
 impl MonthRates {
@@ -45,8 +52,9 @@ impl MonthRates {
         ensures rates { result.rates ≡ rates }
         ensures divisors { DivisorsOf rates result.divisors }
     {
-        let compartments = array::from_fn(|i| compartment_divisor(&rates, i));
-        let kept = (0..COMPARTMENTS).map(|i| retained(&rates, i)).sum::<u64>();
+        let limited = LimitedRates { rates: &rates };
+        let compartments = array::from_fn(|i| limited.divisor(i));
+        let kept = (0..COMPARTMENTS).map(|i| limited.retained(i)).sum::<u64>();
         let plasma = UNIT + rates.urine + kept;
         let divisors = Divisors {
             compartments,

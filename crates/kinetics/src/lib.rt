@@ -4,7 +4,8 @@
 pub mod divisor; // divisor.rt: a month's rates, with the divisors of its steps
 pub mod step; // step.rt: one step (B-8, B-9)
 
-// The number of compartments beside plasma, and the six, in the rates' order. No enum: they are places in arrays that loops go over.
+// The number of compartments beside plasma, and the six, in the rates' order. No enum: they are places in arrays, which lists and sums are made over by
+// number, so a function of one compartment asks that its place be one of the six.
 const COMPARTMENTS: usize = 6;
 
 pub const RED_CELLS: usize = 0;

@@ -22,7 +22,7 @@ pub struct Absorbable<'a> {
     pub ghost own: { AbsorbableOf exposure.now.exposure media total },
 }
 
-// q of a medium.
+// q of a medium. A medium is its place in the lists, which are made over by number, so a function of one asks that its place be one of the five.
 #[tactic(auto, using(crate::proofs::PassedIntakes::passed_intake, crate::proofs::PassedIntakes::absorbable_is))]
 fn absorbable_part(passed: &PassedIntakes, medium: usize) -> u64
     requires { medium < 5 }
