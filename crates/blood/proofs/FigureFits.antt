@@ -1,8 +1,8 @@
 -- The blood figure fits 32 bits.
 -- Assumes nothing.
-use Prim.Native.Nat.{ℕ, ◌+◌, ◌*◌, ◌/◌, ◌≤◌}
+use Prim.Native.Nat.{ℕ, ◌+◌, ◌/◌, ◌≤◌}
 use mathlib.Core.List.{List}
-use native.Mathlib.Nat.{mul-le-mul, mul-le-mul_left, div-mul-le_self}
+use native.Mathlib.Nat.{mul-le-mul_left, div-mul-le_self}
 use native.Mathlib.Omega.{arith}
 use Rattle.numbers.specs.Sums.{sum_to}
 use Rattle.row.specs.declared.Row.{Row}

@@ -10,7 +10,7 @@ use site::places::AGES;
 
 mod eaten;
 
-// The diet intakes of all ages.
+// The diet intakes of all ages. Tried with `array::from_fn`, and the proof did not close: in its closure, where an `Eaten` is made, nothing bounds the age.
 pub fn diets_of(figures: &FoodsFigures) -> [u64; AGES]
     ensures { result ≡ diets_of figures.now.figures }
 {

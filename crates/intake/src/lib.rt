@@ -24,7 +24,7 @@ const THOUSANDTHS_A_HUNDREDTH: u64 = 10;
 
 const INTAKE_MOST: u64 = 1_000_000_000; // pg/day, of air, water, soil, dust and diet
 
-// What is taken in, in pg a day: in the air breathed, and in the eaten media, a list by medium as the definitions have it, which the uptake walks.
+// What is taken in, in pg a day: in the air breathed, and in the eaten media, a list by medium as the definitions have it, which the uptake reads.
 #[derive(Clone, Copy, Debug, PartialEq, Eq)]
 pub struct Intakes {
     pub air: u64,

@@ -22,7 +22,7 @@ fn print_figures(rt: &impl Print) -> io::Result<()> {
     Ok(())
 }
 
-// Prints a rule: its words, and its number at their end.
+// Prints a rule: its words, and its number at their end. The two are no struct: it would be made at each of two calls, and is no plainer.
 fn print_rule(rt: &impl Print, words: &[u8], number: u64) -> io::Result<()>
     requires { (number < grouped_limit) × (length words.now ≤ words_most) }
 {

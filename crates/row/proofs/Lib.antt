@@ -1,3 +1,2 @@
-pub mod RangeTests
 pub mod RowTests
 pub mod RowWithin

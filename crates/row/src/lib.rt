@@ -15,7 +15,7 @@ pub const LAST_MONTH: usize = 84;
 
 // A month's rates a step, in units of 1/D: from plasma to red cells, liver, kidney, other, trabecular and cortical bone, and to
 // urine; from these six back to plasma; from liver to faeces, and from other to skin, hair and nails.
-// Two lists of six and not six pairs, as the definitions have them, which sum each over the places.
+// Two lists of six and not six pairs, as the definitions have them, which go over each by its places.
 #[derive(Clone, Copy, Debug, PartialEq, Eq)]
 pub struct Rates {
     pub out: [u64; 6],
