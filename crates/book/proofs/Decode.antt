@@ -2,32 +2,33 @@
 -- Assumes nothing.
 use mathlib.Core.Path.{◌≡◌, refl, sym, ap, ap₂, ◌∙◌}
 use mathlib.Core.Bool.{Bool}
-use mathlib.Core.List.{List, ◌++◌, append_assoc}
+use mathlib.Core.List.{List, [], ◌++◌, append_assoc}
 use Prim.Native.Nat.{ℕ, suc, ◌+◌, ◌-◌, ◌*◌, ◌/◌, ◌%◌, ◌≤◌, ◌<◌}
 use native.Mathlib.Nat.{zero-add, add-zero}
 use native.Mathlib.Numerals.{add-one}
 use native.Mathlib.Omega.{arith}
 use lib.ListN.{length, get_or, take, drop, length-append, length-drop, get_or-append}
 use lib.Seq.{get_or-append-add, take_at, length-take-le, take_all}
+use Rattle.std.specs.Simd.{first_chunks}
 use Rattle.numbers.specs.Choice.{unless, answer_by, tab}
 use Rattle.numbers.proofs.Every.{every_shift, tab_same, tab-append, length-tab}
 use Rattle.numbers.proofs.Refusals.{or_else_first, or_else-last, answer_refused}
+use Rattle.block.specs.declared.Form.{Form}
 use Rattle.block.specs.Block.{block_bytes, block_refusal, fields_of, block_at, numbers_from}
 use Rattle.block.proofs.BlockRefusals.{field}
 use Rattle.row.specs.Row.{numbers_a_row, rows_a_block, row_numbers, row_from, row_of, row_fits, rows_fit}
 use Rattle.book.specs.BookRead.{BookRead}
-use Rattle.book.specs.Book.{book_blocks, numbers_a_block, table_numbers, book_form, block_numbers, book_block_refusal, blocks_refusal, blocks_decoded, book_number, numbers_of}
+use Rattle.book.specs.Book.{book_blocks, book_bytes, numbers_a_block, table_numbers, book_form, block_numbers, book_block_refusal, blocks_refusal, blocks_decoded, book_number, numbers_of}
 use Rattle.numbers.specs.Parts.{placed}
-use Rattle.numbers.proofs.Parts.{placed_lent, placed_long}
+use Rattle.numbers.proofs.Parts.{chunk_part, placed_lent, placed_long}
 use Rattle.book.specs.Internal.{BlockDecoded, BookDecoded}
 use Rattle.row.proofs.RowTests.{month_fits}
 
--- the part of the book that the code lends is the block
-lent_block : (book : List ℕ) (n : ℕ) → take (block_bytes * n + block_bytes - block_bytes * n) (drop (block_bytes * n) book) ≡ block_at book n
+-- the block that the code reads: one of the book's chunks
+pub chunk_block : (book : List ℕ) (n : ℕ) {blocks : List (List ℕ)} → length book ≡ book_bytes → n < book_blocks
+    → blocks ≡ first_chunks block_bytes (length book / block_bytes) book → get_or blocks n [] ≡ block_at book n
 unfolding block_at
-lent_block book n =
-    let e : block_bytes * n + block_bytes - block_bytes * n ≡ block_bytes = omega arith in
-    rw e
+chunk_block book n long h front = chunk_part block_bytes book_blocks n book (ap (λ l. l / block_bytes) long) h front
 
 length_numbers : (block : List ℕ) → length (block_numbers block) ≡ numbers_a_block
 unfolding numbers_from
@@ -84,49 +85,54 @@ module _ (n : ℕ) (numbers table : List ℕ) (long : length table ≡ table_num
 abbrev pub stored : ℕ → List ℕ → List ℕ → List ℕ
 stored n numbers table = take (numbers_a_block * n) table ++ (numbers ++ drop (numbers_a_block * n + numbers_a_block - numbers_a_block * n) (drop (numbers_a_block * n) table))
 
--- block n of a book
-module _ (book : List ℕ) (n : ℕ) (table : List ℕ) (long : length table ≡ table_numbers) where
-  -- refused by its header, with the table left
-  pub refused_by_header : (r : ℕ) → r ≡ block_refusal (take (block_bytes * n + block_bytes - block_bytes * n) (drop (block_bytes * n) book)) (book_form n) → (r ≡ 0 → ⊥)
-      → BlockDecoded book n table table r
-  unfolding book_block_refusal
-  refused_by_header r e h =
-      let header : r ≡ block_refusal (block_at book n) (book_form n) = e ∙ ap (λ (b : List ℕ). block_refusal b (book_form n)) (lent_block book n) in
-      record {
-        refusal = sym (rw (← header) (or_else_first r _ h));
-        long = long;
-        table = λ z. absurd (h z);
-      }
+-- block n of a book, as the code reads it
+module _
+    (book : List ℕ) (n : ℕ) (table : List ℕ) (long : length table ≡ table_numbers)
+    {block : List ℕ} (its : block ≡ block_at book n) {form : Form} (due : form ≡ book_form n)
+  where
+    header_of : block_refusal block form ≡ block_refusal (block_at book n) (book_form n)
+    header_of = ap₂ block_refusal its due
 
-  module _
-      (below : n < book_blocks)
-      (header : block_refusal (take (block_bytes * n + block_bytes - block_bytes * n) (drop (block_bytes * n) book)) (book_form n) ≡ 0)
-      (numbers : List ℕ)
-      (read : numbers ≡ fields_of (length (take (numbers_a_block * n + numbers_a_block - numbers_a_block * n) (drop (numbers_a_block * n) table))) (take (block_bytes * n + block_bytes - block_bytes * n) (drop (block_bytes * n) book)))
-    where
-      read_numbers : numbers ≡ block_numbers (block_at book n)
-      read_numbers =
-          let few : length (take (numbers_a_block * n + numbers_a_block - numbers_a_block * n) (drop (numbers_a_block * n) table)) ≡ numbers_a_block =
-          length-take-le (numbers_a_block * n + numbers_a_block - numbers_a_block * n) (drop (numbers_a_block * n) table) (omega (arith, length-drop (numbers_a_block * n) table)) ∙ omega arith in
-          read ∙ ap₂ fields_of few (lent_block book n)
+    -- refused by its header, with the table left
+    pub refused_by_header : {r : ℕ} → r ≡ block_refusal block form → (r ≡ 0 → ⊥) → BlockDecoded book n table table r
+    unfolding book_block_refusal
+    refused_by_header {r} e h =
+        let header : r ≡ block_refusal (block_at book n) (book_form n) = e ∙ header_of in
+        record {
+          refusal = sym (rw (← header) (or_else_first r _ h));
+          long = long;
+          table = λ z. absurd (h z);
+        }
 
-      stored_placed : stored n numbers table ≡ placed numbers_a_block n (block_numbers (block_at book n)) table
-      stored_placed = placed_lent numbers_a_block table n read_numbers
+    module _
+        (below : n < book_blocks)
+        (header : 0 ≡ block_refusal block form)
+        {numbers : List ℕ}
+        (read : numbers ≡ fields_of (length (take (numbers_a_block * n + numbers_a_block - numbers_a_block * n) (drop (numbers_a_block * n) table))) block)
+      where
+        read_numbers : numbers ≡ block_numbers (block_at book n)
+        read_numbers =
+            let few : length (take (numbers_a_block * n + numbers_a_block - numbers_a_block * n) (drop (numbers_a_block * n) table)) ≡ numbers_a_block =
+            length-take-le (numbers_a_block * n + numbers_a_block - numbers_a_block * n) (drop (numbers_a_block * n) table) (omega (arith, length-drop (numbers_a_block * n) table)) ∙ omega arith in
+            read ∙ ap₂ fields_of few its
 
-      -- its numbers placed, refused by its rows or not at all
-      pub checked_rows : {fit : Bool} → rows_fit (stored n numbers table) (rows_a_block * n) ≡ fit
-          → BlockDecoded book n table (stored n numbers table) (unless fit 8)
-      unfolding book_block_refusal unless
-      checked_rows {fit} rows =
-          let numbers-long = length_numbers (block_at book n) in
-          let own : rows_fit (block_numbers (block_at book n)) 0 ≡ fit =
-          sym (rows_placed n (block_numbers (block_at book n)) table long below numbers-long) ∙ ap (λ (l : List ℕ). rows_fit l (rows_a_block * n)) (sym stored_placed) ∙ rows in
-          let passed : block_refusal (block_at book n) (book_form n) ≡ 0 = ap (λ (b : List ℕ). block_refusal b (book_form n)) (sym (lent_block book n)) ∙ header in
-          record {
-            refusal = sym (rw (passed, own) (or_else-last (unless fit 8)));
-            long = ap length stored_placed ∙ placed_long numbers_a_block book_blocks table n (block_numbers (block_at book n)) long below numbers-long;
-            table = λ z. stored_placed;
-          }
+        stored_placed : stored n numbers table ≡ placed numbers_a_block n (block_numbers (block_at book n)) table
+        stored_placed = placed_lent numbers_a_block table n read_numbers
+
+        -- its numbers placed, refused by its rows or not at all
+        pub checked_rows : {fit : Bool} → rows_fit (stored n numbers table) (rows_a_block * n) ≡ fit
+            → BlockDecoded book n table (stored n numbers table) (unless fit 8)
+        unfolding book_block_refusal unless
+        checked_rows {fit} rows =
+            let numbers-long = length_numbers (block_at book n) in
+            let own : rows_fit (block_numbers (block_at book n)) 0 ≡ fit =
+            sym (rows_placed n (block_numbers (block_at book n)) table long below numbers-long) ∙ ap (λ (l : List ℕ). rows_fit l (rows_a_block * n)) (sym stored_placed) ∙ rows in
+            let passed : block_refusal (block_at book n) (book_form n) ≡ 0 = sym header_of ∙ sym header in
+            record {
+              refusal = sym (rw (passed, own) (or_else-last (unless fit 8)));
+              long = ap length stored_placed ∙ placed_long numbers_a_block book_blocks table n (block_numbers (block_at book n)) long below numbers-long;
+              table = λ z. stored_placed;
+            }
 
 -- the loop over the blocks, at block n: each block before it was decoded, and what is left is refused and counted as the whole
 pub record AtBlock (book table : List ℕ) (n decodes : ℕ) : Type 0 where

@@ -47,9 +47,8 @@ fn decode_block(
     ensures decodes_after { decodes.new ≡ decodes.old + 1 }
 {
     *decodes += 1;
-    let start = BLOCK_BYTES * n;
-    let end = start + BLOCK_BYTES;
-    let block = &book[start..end];
+    let (blocks, _) = book.as_chunks::<BLOCK_BYTES>();
+    let block = &blocks[n];
     block::read::check_block(block, book_form(n as u32))?;
     let first = BLOCK_NUMBERS * n;
     let last = first + BLOCK_NUMBERS;
@@ -61,7 +60,7 @@ fn decode_block(
     }
 }
 
-// Decodes the blocks in turn, each by its own number, up to the first that is refused.
+// Decodes the blocks in turn up to the first that is refused, each by its own number, which is part of the form that is due.
 fn decode_blocks(
     book: &[u8; BOOK_BYTES],
     table: &mut [u32; TABLE_NUMBERS],

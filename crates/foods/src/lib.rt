@@ -32,9 +32,9 @@ fn decode(block: &[u8], figures: &mut [u32; FIGURES]) -> Result<(), Refusal>
     ensures number { number_in result ≡ foods_refusal block.now }
     ensures figures_after { OnOk result (figures.new ≡ foods_figures block.now) }
 {
-    if block.len() != FOODS_BYTES {
+    let Ok(block) = block.try_into() else {
         return Err(Refusal::WrongLength);
-    }
+    };
     block::read::check_block(block, FOODS_FORM)?;
     block::read::read_numbers::<Words>(block, FIELDS_AT, &mut figures[..AMOUNTS]);
     block::read::read_numbers::<Fields>(block, LEADS_AT, &mut figures[AMOUNTS..FIGURES]);
@@ -49,7 +49,8 @@ fn decode(block: &[u8], figures: &mut [u32; FIGURES]) -> Result<(), Refusal>
     Ok(())
 }
 
-// Reads a foods block into lent memory: its 128 figures, zeros if it is refused.
+// Reads a foods block into lent memory: its 128 figures, zeros if it is refused. Beside `read_foods`, which hands the figures out as a value with
+// their limits: this one fills the memory that C lends.
 pub fn read_figures(block: &[u8], figures: &mut [u32; FIGURES]) -> Result<(), Refusal>
     ensures number { number_in result ≡ foods_refusal block.now }
     ensures figures_after { figures.new ≡ foods_figures block.now }

@@ -1,15 +1,29 @@
 -- A list as parts of one width: what placing one part leaves of the others.
 -- Assumes nothing.
-use Prim.Native.Nat.{ℕ, ◌+◌, ◌-◌, ◌*◌, ◌≤◌, ◌<◌}
-use mathlib.Core.Path.{◌≡◌, sym, ap, ◌∙◌}
+use Prim.Native.Nat.{ℕ, zero, suc, ◌+◌, ◌-◌, ◌*◌, ◌/◌, ◌≤◌, ◌<◌}
+use mathlib.Core.Path.{◌≡◌, refl, sym, ap, ◌∙◌}
 use mathlib.Core.Logic.{◌≢◌}
-use mathlib.Core.List.{List, ◌++◌, append_assoc}
+use mathlib.Core.List.{List, [], ◌++◌, append_assoc}
 use native.Mathlib.Omega.{arith}
 use native.Mathlib.Decide.{dec_lt}
 use native.Mathlib.Nat.{mul-le-mul_left}
-use lib.ListN.{length, take, drop, length-append, length-drop, take-append-drop}
+use lib.ListN.{length, get_or, take, drop, length-append, length-drop, take-append-drop}
 use lib.Seq.{take_at, drop_at, drop-drop, length-take-le, drop-append-le, drop-append-add, take-append-le}
+use Rattle.std.specs.Simd.{first_chunks}
 use Rattle.numbers.specs.Parts.{part_at, placed}
+
+-- a list in chunks of one width, whose parts they are
+chunk_at : (w k i : ℕ) (l : List ℕ) → i < k → get_or (first_chunks w k l) i [] ≡ part_at w l i
+chunk_at w zero i l h = absurd (omega arith)
+chunk_at w (suc k) zero l h = let none : w * 0 ≡ 0 = omega arith in rw none refl
+chunk_at w (suc k) (suc i) l h =
+    let past : w + w * i ≡ w * suc i = omega arith in
+    chunk_at w k i (drop w l) (omega arith) ∙ ap (take w) (drop-drop (w * i) w l ∙ ap (λ n. drop n l) past)
+
+-- and as many chunks as the list is long: chunk i is part i
+pub chunk_part : (w k i : ℕ) (l : List ℕ) {chunks : List (List ℕ)} → length l / w ≡ k → i < k → chunks ≡ first_chunks w (length l / w) l
+    → get_or chunks i [] ≡ part_at w l i
+chunk_part w k i l many h e = ap (λ c. get_or c i []) (e ∙ ap (λ n. first_chunks w n l) many) ∙ chunk_at w k i l h
 
 module _ (w : ℕ) where
   -- a part ends where the next starts

@@ -1,16 +1,14 @@
 -- Rows put on the roll, one behind the other.
 -- Assumes nothing.
-use Prim.Native.Nat.{ℕ, zero, suc, ◌+◌, ◌*◌, ◌/◌, ◌≤◌, ◌<◌}
+use Prim.Native.Nat.{ℕ, zero, suc, ◌+◌, ◌/◌, ◌≤◌, ◌<◌}
 use mathlib.Core.Path.{◌≡◌, refl, sym, ap, ap₂, ◌∙◌}
 use mathlib.Core.List.{List, [], ◌∷◌, ◌++◌, map, append-nil, append_assoc}
 use native.Mathlib.Omega.{arith}
 use native.Mathlib.Numerals.{add-one}
-use lib.ListN.{length, get_or, take, drop}
-use lib.Seq.{drop-drop}
+use lib.ListN.{length, get_or}
 use Rattle.std.specs.Array.{AllOfLen}
 use Rattle.std.specs.Simd.{first_chunks}
-use Rattle.numbers.specs.Parts.{part_at}
-use Rattle.numbers.proofs.Parts.{placed_same, placed-other, placed_long}
+use Rattle.numbers.proofs.Parts.{chunk_part, placed_same, placed-other, placed_long}
 use Rattle.lines.specs.declared.RowText.{RowText}
 use Rattle.lines.proofs.Defaults.{zeros}
 use Rattle.card.specs.Row.{read_kept}
@@ -26,20 +24,12 @@ use Rattle.roll.proofs.RowWords.{words_law, words_long}
 pub no_row : (roll : Roll) → AllOfLen (λ x. x ≡ 0) roll.words roll_words → roll.count ≡ 0 → roll ≡ blank
 no_row roll words count = rw (zeros roll_words roll.words words, count) refl
 
--- a list in chunks of one width, whose parts they are
-chunk_at : (w k i : ℕ) (l : List ℕ) → i < k → get_or (first_chunks w k l) i [] ≡ part_at w l i
-chunk_at w zero i l h = absurd (omega arith)
-chunk_at w (suc k) zero l h = let none : w * 0 ≡ 0 = omega arith in rw none refl
-chunk_at w (suc k) (suc i) l h =
-    let past : w + w * i ≡ w * suc i = omega arith in
-    chunk_at w k i (drop w l) (omega arith) ∙ ap (take w) (drop-drop (w * i) w l ∙ ap (λ n. drop n l) past)
-
 -- a roll in rows
 pub row_at :
     (roll : List ℕ) (rows : List (List ℕ)) (i : ℕ) {x : Start} → length roll ≡ roll_words → i < rows_a_group
     → rows ≡ first_chunks words_a_row (length roll / words_a_row) roll → x ≡ start_in (get_or rows i []) → x ≡ start_at roll i
 row_at roll rows i long h front e =
-    e ∙ ap start_in (ap (λ l. get_or l i []) front ∙ ap (λ n. get_or (first_chunks words_a_row (n / words_a_row) roll) i []) long ∙ chunk_at words_a_row rows_a_group i roll h)
+    e ∙ ap start_in (chunk_part words_a_row rows_a_group i roll (ap (λ n. n / words_a_row) long) h front)
 
 -- rolls with the same first n rows
 starts_same : (n : ℕ) (a b : List ℕ) → ((j : ℕ) → j < n → start_at a j ≡ start_at b j) → starts_in n a ≡ starts_in n b

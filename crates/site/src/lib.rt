@@ -88,9 +88,9 @@ pub fn scenario_of(fields: [u32; FIELDS]) -> Scenario
 pub fn read_site(site: &[u8]) -> Result<Scenario, Refusal>
     ensures { read_in result ≡ read_site site.now }
 {
-    if site.len() != SITE_BYTES {
+    let Ok(site) = site.try_into() else {
         return Err(Refusal::WrongLength);
-    }
+    };
     block::read::check_block(site, SITE_FORM)?;
     let mut fields = [0u32; FIELDS];
     block::read::read_numbers::<Fields>(site, FIELDS_AT, &mut fields);
