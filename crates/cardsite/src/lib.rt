@@ -22,7 +22,7 @@ mod running; // running.rt: a card that runs
 
 pub use running::RunningCard;
 
-// Where the absorbed percentages of dust and soil stand.
+// Where the absorbed percentages of dust and soil stand: 2 and 3 are the places of dust and soil among the media.
 const ABSORBED_DUST: usize = places::ABSORBED + 2;
 
 const ABSORBED_SOIL: usize = places::ABSORBED + 3;

@@ -14,7 +14,8 @@ ghost use Rattle.group.specs.Group.{answered, group_answers};
 use files::CallFiles;
 use group::answers::WORDS;
 
-// A row over a site file, a foods block if `has_foods` says so, and a rate book: its number, its blood and whether it is skipped.
+// A row over a site file, a foods block if `has_foods` says so, as C has no argument that may be left out, and a rate book: its number, its blood and
+// whether it is skipped.
 #[unsafe(no_mangle)]
 pub extern "C" fn jurengate_card_row(
     site: &[u8],

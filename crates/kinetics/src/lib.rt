@@ -4,8 +4,9 @@
 pub mod divisor; // divisor.rt: a month's rates, with the divisors of its steps
 pub mod step; // step.rt: one step (B-8, B-9)
 
-// The number of compartments beside plasma, and the six, in the rates' order. No enum: they are places in arrays, which lists and sums are made over by
-// number, so a function of one compartment asks that its place be one of the six.
+// The number of compartments beside plasma, and the six, in the rates' order. No enum: each is used as a place in a list of six, so an enum would be turned
+// into a place at each use, and lists and sums would go over a table of all six, which is no plainer. So a function of one compartment asks that its place
+// be one of the six.
 const COMPARTMENTS: usize = 6;
 
 pub const RED_CELLS: usize = 0;

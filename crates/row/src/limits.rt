@@ -41,7 +41,10 @@ impl Rates {
     fn returns_fit(&self) -> bool
         ensures { result ≡ returns_fit self.now }
     {
-        (0..self.back.len()).all(|i| self.back[i].saturating_add(self.exit(i)) <= UNIT)
+        self.back
+            .iter()
+            .enumerate()
+            .all(|(i, back)| back.saturating_add(self.exit(i)) <= UNIT)
     }
 
     // What leaves plasma: a1 + .. + a6 + au, or the most that 64 bits hold.
@@ -97,7 +100,7 @@ impl Row {
     }
 }
 
-// Are the five rows from `first` within their limits? A list, as in `row_at`.
+// Are the five rows from `first` within their limits? A list, as in `row_at`. The months go by number, since a row's place in the table is made of it.
 pub fn rows_fit(table: &[u32], first: usize) -> bool
     requires { numbers_a_row * (first + rows_a_block) ≤ length table.now }
     ensures { result ≡ rows_fit table.now first }

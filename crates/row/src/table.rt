@@ -5,7 +5,7 @@ ghost use Rattle.row.specs.Row.{numbers_a_row, row_from, row_of};
 use super::{Rates, Row, places};
 use std::array;
 
-// The row of 23 numbers.
+// The row of 23 numbers. Both lists are made by number, since a part of a list becomes an array only by a test, with a way out that never comes.
 impl From<[u64; places::ROW_NUMBERS]> for Row {
     ghost from_gives = { λ numbers row. row ≡ row_from numbers };
 

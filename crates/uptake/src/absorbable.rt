@@ -22,7 +22,8 @@ pub struct Absorbable<'a> {
     pub ghost own: { AbsorbableOf exposure.now.exposure media total },
 }
 
-// q of a medium. A medium is its place in the lists, which are made over by number, so a function of one asks that its place be one of the five.
+// q of a medium. No enum: a medium is used as a place in a list of five, so an enum would be turned into a place at each use, and lists and sums would go
+// over a table of all five, which is no plainer. So a function of one medium asks that its place be one of the five.
 #[tactic(auto, using(crate::proofs::PassedIntakes::passed_intake, crate::proofs::PassedIntakes::absorbable_is))]
 fn absorbable_part(passed: &PassedIntakes, medium: usize) -> u64
     requires { medium < 5 }
