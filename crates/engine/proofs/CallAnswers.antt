@@ -11,6 +11,7 @@ use Rattle.numbers.proofs.Refusals.{or_else_first, or_else-last, answer_refused}
 use Rattle.refusal.specs.declared.Refusal.{Refusal}
 use Rattle.refusal.specs.Refusal.{number_of}
 use Rattle.refusal.proofs.Numbers.{some_number}
+use Rattle.site.specs.declared.Scenario.{Scenario}
 use Rattle.row.specs.Row.{last_month, row_of}
 use Rattle.kinetics.specs.declared.State.{State}
 use Rattle.state.specs.State.{zero_state}
@@ -22,14 +23,12 @@ use Rattle.child.specs.Internal.{child_run}
 use Rattle.child.proofs.MonthAnswers.{refused_answer, refused_birth_lem, birth_answer_refusal}
 use Rattle.child.proofs.RunLoop.{Done, months_agree}
 use Rattle.files.specs.Files.{Files, length_refusal, before_book_refusal, files_refusal, scenario_in, table_in}
-use Rattle.files.specs.FilesRead.{FilesRead}
-use Rattle.files.specs.Internal.{FilesAreRead}
 use Rattle.files.proofs.ReadAnswers.{first_refused}
 use Rattle.engine.specs.Birth.{birth_refusal, birth_of}
 use Rattle.engine.specs.Month.{month_refusal, month_of}
 use Rattle.engine.specs.Run.{start_refusal, run_of}
-use Rattle.engine.specs.Internal.{started_in}
-use Rattle.engine.proofs.FilesDecoded.{read_as_lem, files_passed}
+use Rattle.engine.specs.Internal.{AreThoseOf, started_in}
+use Rattle.engine.proofs.FilesDecoded.{read_as_lem}
 
 -- a month call of files that pass
 pub month_passed : (s : ℕ) (a : State) (f : Files) → files_refusal f ≡ 0 → child_month s a (scenario_in f) (table_in f) ≡ month_of s a f
@@ -39,24 +38,25 @@ month_passed s a f z =
     (ap (λ (n : ℕ). month_answer n a (month_last s a (scenario_in f) (table_in f)) (row_of (table_in f) (month_after a)))
     (sym (or_else-last (child_refusal s a (scenario_in f) (table_in f)))))
 
--- the calls by what reading their files answers
-module _ {f : Files} {table : List ℕ} {x : FilesRead} (read : FilesAreRead f table x) where
-  pub birth_files_refused : (x.refusal ≡ 0 → ⊥) → refused_birth x.refusal ≡ birth_of f
+-- the calls of refused files, and of accepted ones
+module _ (f : Files) where
+  pub birth_files_refused : (r : Refusal) → number_of r ≡ files_refusal f → refused_birth (number_of r) ≡ birth_of f
   unfolding birth_of birth_refusal
-  birth_files_refused h = rw (← read.refusal, or_else_first x.refusal _ h) (refused_birth_lem x.refusal _ h)
+  birth_files_refused r e = rw (← e, or_else_first (number_of r) _ (some_number r)) (refused_birth_lem (number_of r) _ (some_number r))
 
-  pub birth_files_read : x.refusal ≡ 0 → birth_answer (newborn_refusal x.scenario table) (newborn x.scenario table) ≡ birth_of f
-  unfolding birth_of birth_refusal
-  birth_files_read z =
-      read_as_lem f (read.scenario z) (read.table_is z) (λ scenario l. birth_answer (newborn_refusal scenario l) (newborn scenario l))
-      ∙ rw (files_passed read z) (ap (λ (n : ℕ). birth_answer n (newborn (scenario_in f) (table_in f))) (sym (or_else-last (newborn_refusal (scenario_in f) (table_in f)))))
-
-  pub month_files_refused : (s : ℕ) (a : State) → (x.refusal ≡ 0 → ⊥) → refused_month x.refusal a ≡ month_of s a f
+  pub month_files_refused : (s : ℕ) (a : State) (r : Refusal) → number_of r ≡ files_refusal f → refused_month (number_of r) a ≡ month_of s a f
   unfolding month_of month_refusal
-  month_files_refused s a h = rw (← read.refusal, or_else_first x.refusal _ h) (refused_answer x.refusal a _ h)
+  month_files_refused s a r e = rw (← e, or_else_first (number_of r) _ (some_number r)) (refused_answer (number_of r) a _ (some_number r))
 
-  pub month_files_read : (s : ℕ) (a : State) → x.refusal ≡ 0 → child_month s a x.scenario table ≡ month_of s a f
-  month_files_read s a z = read_as_lem f (read.scenario z) (read.table_is z) (child_month s a) ∙ month_passed s a f (files_passed read z)
+module _ {f : Files} {scenario : Scenario} {table : List ℕ} (those : AreThoseOf f scenario table) where
+  pub birth_files_read : birth_answer (newborn_refusal scenario table) (newborn scenario table) ≡ birth_of f
+  unfolding birth_of birth_refusal
+  birth_files_read =
+      read_as_lem those (λ own l. birth_answer (newborn_refusal own l) (newborn own l))
+      ∙ rw those.accepted (ap (λ (n : ℕ). birth_answer n (newborn (scenario_in f) (table_in f))) (sym (or_else-last (newborn_refusal (scenario_in f) (table_in f)))))
+
+  pub month_files_read : (s : ℕ) (a : State) → child_month s a scenario table ≡ month_of s a f
+  month_files_read s a = read_as_lem those (child_month s a) ∙ month_passed s a f those.accepted
 
 -- birth is the start of a run into a list of 84 places: files of a wrong length are refused with 1 in any case
 length_first : (f : Files) (r : ℕ) → length_refusal f ≡ suc r → birth_refusal f ≡ suc r
@@ -104,13 +104,13 @@ unfolding birth_of
 birth_number f e = ap (λ (x : BirthAnswer). x.refusal) e ∙ birth_answer_refusal (birth_refusal f) _
 
 -- a run that starts: its months are those of the definition
-module _ {f : Files} {table : List ℕ} {x : FilesRead} (read : FilesAreRead f table x) (passed : x.refusal ≡ 0) (s : ℕ) (l : List ℕ) where
+module _ {f : Files} {scenario : Scenario} {table : List ℕ} (those : AreThoseOf f scenario table) (s : ℕ) (l : List ℕ) where
   pub run_months : 0 ≡ start_refusal f (length l) → {child : State} → ◌≡◌ {A = BirthAnswer} (record { refusal = 0; state = child }) (birth_of f)
-      → {y : RunAnswer} {after : List ℕ} → Done (child_run s child x.scenario table) l y after → Done (run_of s f (length l)) l y after
+      → {y : RunAnswer} {after : List ℕ} → Done (child_run s child scenario table) l y after → Done (run_of s f (length l)) l y after
   unfolding run_of child_run
   run_months start {child} born done =
-      let months_are : months_by (λ a. child_month s a x.scenario table) last_month child ≡ months_by (λ a. month_of s a f) last_month (birth_of f).state =
-      ap (months_by (λ a. child_month s a x.scenario table) last_month) (ap (λ (b : BirthAnswer). b.state) born)
-      ∙ months_agree (λ a. child_month s a x.scenario table) (λ a. month_of s a f) (λ a. month_files_read read s a passed) last_month (birth_of f).state
+      let months_are : months_by (λ a. child_month s a scenario table) last_month child ≡ months_by (λ a. month_of s a f) last_month (birth_of f).state =
+      ap (months_by (λ a. child_month s a scenario table) last_month) (ap (λ (b : BirthAnswer). b.state) born)
+      ∙ months_agree (λ a. child_month s a scenario table) (λ a. month_of s a f) (month_files_read those s) last_month (birth_of f).state
       in
       rw (← start, ← months_are) done

@@ -12,6 +12,7 @@ use Rattle.files.specs.FilesRead.{FilesRead}
 use Rattle.files.specs.Internal.{FilesAreRead}
 use Rattle.files.proofs.FilesPassed.{site_passed, book_passed}
 use Rattle.child.specs.Decoded.{Decoded}
+use Rattle.engine.specs.Internal.{AreThoseOf}
 
 pub files_decoded : (f : Files) → files_refusal f ≡ 0 → Decoded (scenario_in f) (table_in f)
 files_decoded f passed =
@@ -22,17 +23,13 @@ files_decoded f passed =
     }
 
 -- a scenario and a table that are those of accepted files
-module _ (f : Files) {scenario : Scenario} {table : List ℕ} (es : scenario ≡ scenario_in f) (et : table ≡ table_in f) where
+module _ {f : Files} {scenario : Scenario} {table : List ℕ} (those : AreThoseOf f scenario table) where
   pub read_as_lem : {A : Type 0} (g : Scenario → List ℕ → A) → g scenario table ≡ g (scenario_in f) (table_in f)
-  read_as_lem g = ap₂ g es et
+  read_as_lem g = ap₂ g those.scenario_is those.table_is
 
-  pub read_decoded : files_refusal f ≡ 0 → Decoded scenario table
-  read_decoded passed = rw (es, et) (files_decoded f passed)
+  pub read_decoded : Decoded scenario table
+  read_decoded = rw (those.scenario_is, those.table_is) (files_decoded f those.accepted)
 
--- as the code has them from its reading
-module _ {f : Files} {table : List ℕ} {x : FilesRead} (read : FilesAreRead f table x) (passed : x.refusal ≡ 0) where
-  pub files_passed : files_refusal f ≡ 0
-  files_passed = sym read.refusal ∙ passed
-
-  pub files_read_decoded : Decoded x.scenario table
-  files_read_decoded = read_decoded f (read.scenario passed) (read.table_is passed) files_passed
+-- as reading the files leaves them
+pub files_are_those : {f : Files} {table : List ℕ} {x : FilesRead} → FilesAreRead f table x → x.refusal ≡ 0 → AreThoseOf f x.scenario table
+files_are_those read passed = record { accepted = sym read.refusal ∙ passed; scenario_is = read.scenario passed; table_is = read.table_is passed }

@@ -1,6 +1,4 @@
 // The engine: birth, the month call and the run, on site files, foods blocks and rate books of any length and content.
-// Each call reads its files by the same lines, as `survey`, `group` and `routes` do: the child borrows what they read, so no other function can hand it
-// out. One that is handed what to do with the child, as a closure, would need a contract over the closure, and one at each call: no plainer than the lines.
 #![tactic(auto)]
 
 ghost use Rattle.std.specs.Prelude.{◌≡◌, length};
@@ -13,25 +11,21 @@ ghost use Rattle.engine.specs.Month.{month_of};
 ghost use Rattle.engine.specs.Run.{run_of};
 ghost use Rattle.engine.specs.Internal.{started_in};
 
-use book::TABLE_NUMBERS;
 use child::MonthEnd;
-use child::given::Accepted;
 use child::months::Run;
 use files::CallFiles;
 use kinetics::State;
 use refusal::Refusal;
+use room::Room;
+
+pub mod room; // room.rt: what a call reads its files into
 
 // Birth: the child at month 0.
 pub fn birth(files: &CallFiles) -> Result<State, Refusal>
     ensures { birth_answer_in result ≡ birth_of (files_in files.now) }
 {
-    let mut table = [0; TABLE_NUMBERS];
-    let mut decodes = 0;
-    let scenario = files.read(&mut table, &mut decodes)?;
-    let accepted = Accepted {
-        scenario: &scenario,
-        table: &table,
-    };
+    let mut room = Room::default();
+    let accepted = room.accept(files)?;
     accepted.birth()
 }
 
@@ -39,13 +33,8 @@ pub fn birth(files: &CallFiles) -> Result<State, Refusal>
 pub fn month(state: &State, files: &CallFiles) -> Result<MonthEnd, Refusal>
     ensures { month_answer_in state.now result ≡ month_of steps_a_day state.now (files_in files.now) }
 {
-    let mut table = [0; TABLE_NUMBERS];
-    let mut decodes = 0;
-    let scenario = files.read(&mut table, &mut decodes)?; // before the refusals of the child
-    let accepted = Accepted {
-        scenario: &scenario,
-        table: &table,
-    };
+    let mut room = Room::default();
+    let accepted = room.accept(files)?; // before the refusals of the child
     accepted.month(state)
 }
 
@@ -58,13 +47,8 @@ fn started_run(files: &CallFiles, blood: &mut [u32]) -> Result<Run, Refusal>
     let Some(figures) = blood.as_mut_array() else {
         return Err(Refusal::WrongListLength);
     };
-    let mut table = [0; TABLE_NUMBERS];
-    let mut decodes = 0;
-    let scenario = files.read(&mut table, &mut decodes)?; // after those of the lengths and of the list
-    let accepted = Accepted {
-        scenario: &scenario,
-        table: &table,
-    };
+    let mut room = Room::default();
+    let accepted = room.accept(files)?; // after those of the lengths and of the list
     let child = accepted.birth()?;
     Ok(accepted.months(&child, figures))
 }

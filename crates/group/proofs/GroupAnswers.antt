@@ -10,10 +10,12 @@ use Rattle.std.proofs.Common.{Option, Result, Err}
 use Rattle.std.proofs.lemmas.List.{take_more_set, map-append, take-replicate}
 use Rattle.numbers.proofs.Refusals.{answer_refused}
 use Rattle.site.specs.declared.Scenario.{Scenario}
-use Rattle.files.specs.FilesRead.{FilesRead}
-use Rattle.files.specs.Files.{Files, files_decodes}
-use Rattle.files.specs.Internal.{FilesAreRead}
-use Rattle.engine.proofs.FilesDecoded.{files_passed, read_as_lem}
+use Rattle.refusal.specs.declared.Refusal.{Refusal}
+use Rattle.refusal.specs.Refusal.{number_of}
+use Rattle.refusal.proofs.Numbers.{some_number}
+use Rattle.files.specs.Files.{Files, files_refusal, files_decodes}
+use Rattle.engine.specs.Internal.{AreThoseOf}
+use Rattle.engine.proofs.FilesDecoded.{read_as_lem}
 use Rattle.child.specs.declared.courses.Course as code
 use Rattle.child.specs.Outcomes.{course_in}
 use Rattle.child.specs.Course.{course_at}
@@ -69,17 +71,21 @@ module _ (s : ℕ) (scenario : Scenario) (table : List ℕ) where
       let next : answer_read a ≡ start_answer s scenario table (start_at roll i) = rw (ea, ex, run.each i h) (end_answer_lem (start_at roll i)) in
       read_more answers i a room ∙ rw (so_far, next) (rows_more (start_answer s scenario table) i roll)
 
--- the files as the code has them from its reading
-module _ {f : Files} {table : List ℕ} {x : FilesRead} (read : FilesAreRead f table x) (s : ℕ) (roll : List ℕ) (count : ℕ) where
-  pub roll_refused : (x.refusal ≡ 0 → ⊥) → map (λ (y : Start). Refused x.refusal) (starts_in (min count rows_a_group) roll) ≡ roll_answers s f count roll
+-- the rows over refused files, and over accepted ones
+module _ (s : ℕ) (roll : List ℕ) (count : ℕ) where
+  pub roll_refused : (f : Files) (r : Refusal) → number_of r ≡ files_refusal f
+      → map (λ (y : Start). Refused (number_of r)) (starts_in (min count rows_a_group) roll) ≡ roll_answers s f count roll
   unfolding roll_answers
-  roll_refused h = map_same (λ (y : Start). Refused x.refusal) (files_then s f) (λ y. rw (← read.refusal) (sym (answer_refused _ Refused x.refusal h))) (starts_in (min count rows_a_group) roll)
+  roll_refused f r e =
+      map_same (λ (y : Start). Refused (number_of r)) (files_then s f) (λ y. rw (← e) (sym (answer_refused _ Refused (number_of r) (some_number r))))
+      (starts_in (min count rows_a_group) roll)
 
-  pub roll_answered : (z : x.refusal ≡ 0) → map (start_answer s x.scenario table) (starts_in (min count rows_a_group) roll) ≡ roll_answers s f count roll
+  pub roll_answered : {f : Files} {scenario : Scenario} {table : List ℕ} → AreThoseOf f scenario table
+      → map (start_answer s scenario table) (starts_in (min count rows_a_group) roll) ≡ roll_answers s f count roll
   unfolding roll_answers
-  roll_answered z =
-      map_same (start_answer s x.scenario table) (files_then s f)
-      (λ y. read_as_lem f (read.scenario z) (read.table_is z) (λ scenario l. start_answer s scenario l y) ∙ rw (files_passed read z)) (starts_in (min count rows_a_group) roll)
+  roll_answered {f} {scenario} {table} those =
+      map_same (start_answer s scenario table) (files_then s f) (λ y. read_as_lem those (λ own l. start_answer s own l y) ∙ rw those.accepted)
+      (starts_in (min count rows_a_group) roll)
 
 -- where the files are refused, every row answers their number
 pub all_refused : (r n m : ℕ) (roll : List ℕ) → n ≤ m → answers_read n (replicate m (Err r)) ≡ map (λ (y : Start). Refused r) (starts_in n roll)

@@ -14,8 +14,8 @@ ghost use Rattle.group.specs.Given.{answer_read, answers_read};
 ghost use Rattle.group.specs.Internal.{end_answer};
 
 use answers::WORDS;
-use book::TABLE_NUMBERS;
 use child::courses::Course;
+use engine::room::Room;
 use files::CallFiles;
 use given::{GroupAnswers, RowAnswer};
 use month::SharedMonth;
@@ -47,7 +47,8 @@ fn answer_of(start: &RowStart, course: &Course) -> RowAnswer
 }
 
 // What the rows of a roll answer over accepted files: all are run to a month, whose exposure and row they share, before any goes on to the next. The
-// courses stand here alone, since a list of them that is handed out would lie on the stack twice.
+// courses stand here alone, since a list of them that is handed out would lie on the stack twice. Both loops ask for the start by the row's number, and
+// the second for the course: three lists meet, and std says nothing of a list after a `zip` of lent elements.
 fn row_answers(files: ReadyFiles, roll: &Roll) -> [RowAnswer; GROUP_ROWS]
     ensures { answers_read (min roll.now.count rows_a_group) result ≡ map (start_answer steps_a_day files.entry.scenario.now files.entry.table.now) (starts_in (min roll.now.count rows_a_group) roll.now.words) }
 {
@@ -66,19 +67,18 @@ fn row_answers(files: ReadyFiles, roll: &Roll) -> [RowAnswer; GROUP_ROWS]
     answers
 }
 
-// What the rows of a roll answer over these files, and how many blocks of the book were decoded. Files are read here as in `engine`: what the struct
-// borrows stands in this function.
+// What the rows of a roll answer over these files, and how many blocks of the book were decoded.
 pub fn answers_of(files: &CallFiles, roll: &Roll) -> GroupAnswers
     ensures rows { answers_read result.count result.rows ≡ roll_answers steps_a_day (files_in files.now) roll.now.count roll.now.words }
     ensures decodes { result.decodes ≡ files_decodes (files_in files.now) }
 {
-    let mut table = [0u32; TABLE_NUMBERS];
+    let mut room = Room::default();
     let mut decodes = 0;
-    let rows = match files.read(&mut table, &mut decodes) {
-        Ok(scenario) => {
+    let rows = match room.accept_counted(files, &mut decodes) {
+        Ok(yard) => {
             let ready = ReadyFiles {
-                scenario: &scenario,
-                table: &table,
+                scenario: yard.scenario,
+                table: yard.table,
             };
             row_answers(ready, roll)
         }

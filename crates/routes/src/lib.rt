@@ -7,9 +7,9 @@ ghost use Rattle.files.specs.CallFiles.{files_in};
 ghost use Rattle.routes.specs.Sums.{monthly_sums};
 ghost use Rattle.routes.specs.Internal.{exposed_sums, sums_in, by_route};
 
-use book::TABLE_NUMBERS;
 use child::given::Accepted;
 use child::months::MONTHS;
+use engine::room::Room;
 use exposure::limited::LimitedExposure;
 use files::CallFiles;
 use intake::passed::PassedIntakes;
@@ -49,23 +49,16 @@ fn sums_in(accepted: &Accepted, month: u64) -> RouteSums
     exposed_sums(&exposure, booked.body_weights())
 }
 
-// The sums of each month's day; zeros in a month whose intakes 9 refuses, and in every month of refused files. Files are read here as in `engine`: what
-// the struct borrows stands in this function.
-#[tactic(auto, using(crate::proofs::MonthSums::stored_none, crate::proofs::MonthSums::stored_next, crate::proofs::MonthSums::stored_all, crate::proofs::MonthSums::refused_monthly, engine::proofs::FilesDecoded::files_passed))]
+// The sums of each month's day; zeros in a month whose intakes 9 refuses, and in every month of refused files.
+#[tactic(auto, using(crate::proofs::MonthSums::stored_none, crate::proofs::MonthSums::stored_next, crate::proofs::MonthSums::stored_all, crate::proofs::MonthSums::refused_monthly, refusal::proofs::Numbers::some_number))]
 pub fn monthly_sums(files: &CallFiles) -> [RouteSums; MONTHS]
     ensures { by_route result ≡ monthly_sums (files_in files.now) }
 {
-    let mut table = [0; TABLE_NUMBERS];
-    let mut decodes = 0;
     let none = RouteSums::default();
     let mut sums = [none; MONTHS];
-    let scenario = match files.read(&mut table, &mut decodes) {
-        Ok(scenario) => scenario,
-        Err(_) => return sums,
-    };
-    let accepted = Accepted {
-        scenario: &scenario,
-        table: &table,
+    let mut room = Room::default();
+    let Ok(accepted) = room.accept(files) else {
+        return sums;
     };
     for (done, sum) in sums.iter_mut().enumerate() {
         *sum = sums_in(&accepted, done as u64 + 1);

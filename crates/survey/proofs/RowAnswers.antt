@@ -12,11 +12,10 @@ use Rattle.site.specs.declared.Scenario.{Scenario}
 use Rattle.site.proofs.FieldsWithin.{accepted_fits, mother_accepted}
 use Rattle.exposure.proofs.ExposureWithin.{exposure_within}
 use Rattle.book.proofs.RowsWithin.{rows_within}
-use Rattle.files.specs.FilesRead.{FilesRead}
 use Rattle.files.specs.Files.{Files, files_refusal, scenario_in, table_in}
-use Rattle.files.specs.Internal.{FilesAreRead}
 use Rattle.files.proofs.FilesPassed.{site_passed, book_passed}
-use Rattle.engine.proofs.FilesDecoded.{files_passed, read_as_lem}
+use Rattle.engine.specs.Internal.{AreThoseOf}
+use Rattle.engine.proofs.FilesDecoded.{read_as_lem}
 use Rattle.child.specs.declared.courses.Course as code
 use Rattle.child.specs.Answers.{Course}
 use Rattle.child.specs.Outcomes.{course_with, course_in}
@@ -69,7 +68,11 @@ pub card-answered :
 unfolding card_answer
 card-answered s c scenario table course er ea ec = blood_is course ∙ rw (ec, er, ea)
 
--- accepted files
+-- refused files, and accepted ones
+pub files_refused : (f : Files) (s : ℕ) (kept : RowText) (r : Refusal) → number_of r ≡ files_refusal f → Refused (number_of r) ≡ kept_answer s f kept
+unfolding kept_answer
+files_refused f s kept r e = rw (← e) (sym (answer_refused _ Refused (number_of r) (some_number r)))
+
 pub files_ready : (f : Files) → files_refusal f ≡ 0 → Ready (scenario_in f) (table_in f)
 files_ready f passed =
     record {
@@ -78,18 +81,10 @@ files_ready f passed =
       row = rows_within f.book (book_passed f passed);
     }
 
--- as the code has them from its reading
-module _ {f : Files} {table : List ℕ} {x : FilesRead} (read : FilesAreRead f table x) where
-  pub files_refused : (s : ℕ) (kept : RowText) → (x.refusal ≡ 0 → ⊥) → Refused x.refusal ≡ kept_answer s f kept
+module _ {f : Files} {scenario : Scenario} {table : List ℕ} (those : AreThoseOf f scenario table) where
+  pub files_read_ready : Ready scenario table
+  files_read_ready = rw (those.scenario_is, those.table_is) (files_ready f those.accepted)
+
+  pub files_answered : (s : ℕ) (kept : RowText) → start_answer s scenario table (start_of (read_kept kept)) ≡ kept_answer s f kept
   unfolding kept_answer
-  files_refused s kept h = rw (← read.refusal) (sym (answer_refused _ Refused x.refusal h))
-
-  module _ (passed : x.refusal ≡ 0) where
-    pub files_read_ready : Ready x.scenario table
-    files_read_ready = rw (read.scenario passed, read.table_is passed) (files_ready f (files_passed read passed))
-
-    pub files_answered : (s : ℕ) (kept : RowText) → start_answer s x.scenario table (start_of (read_kept kept)) ≡ kept_answer s f kept
-    unfolding kept_answer
-    files_answered s kept =
-        read_as_lem f (read.scenario passed) (read.table_is passed) (λ scenario l. start_answer s scenario l (start_of (read_kept kept)))
-        ∙ rw (files_passed read passed)
+  files_answered s kept = read_as_lem those (λ own l. start_answer s own l (start_of (read_kept kept))) ∙ rw those.accepted

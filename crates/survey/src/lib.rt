@@ -9,9 +9,9 @@ ghost use Rattle.steps.specs.Steps.{steps_a_day};
 ghost use Rattle.survey.specs.RowAnswer.{answer_in, blood_in};
 ghost use Rattle.survey.specs.Survey.{card_answer, start_answer, kept_answer, row_answer};
 
-use book::TABLE_NUMBERS;
 use cardsite::RunningCard;
 use child::given::Accepted;
+use engine::room::Room;
 use files::CallFiles;
 use lines::RowText;
 use ready::ReadyFiles;
@@ -57,16 +57,15 @@ impl<'a> ReadyFiles<'a> {
     }
 }
 
-// What a row answers, of what is kept of it. Files are read here as in `engine`: what the struct borrows stands in this function.
+// What a row answers, of what is kept of it.
 pub fn kept_answer(files: &CallFiles, kept: &RowText) -> Result<Option<u32>, Refusal>
     ensures { answer_in result ≡ kept_answer steps_a_day (files_in files.now) kept.now }
 {
-    let mut table = [0u32; TABLE_NUMBERS];
-    let mut decodes = 0;
-    let scenario = files.read(&mut table, &mut decodes)?;
+    let mut room = Room::default();
+    let yard = room.accept(files)?;
     let ready = ReadyFiles {
-        scenario: &scenario,
-        table: &table,
+        scenario: yard.scenario,
+        table: yard.table,
     };
     ready.answer(kept)
 }

@@ -6,7 +6,6 @@ use Rattle.std.proofs.lemmas.Result.{err_from_is_err_and}
 use Rattle.refusal.specs.declared.Refusal.TheVariants.{WrongListLength}
 use Rattle.steps.specs.Steps.{steps_a_day}
 use Rattle.files.specs.CallFiles.{files_in}
-use Rattle.engine.proofs.FilesDecoded.{files_read_decoded}
 use Rattle.engine.proofs.CallAnswers.{birth_files_read, run_refused, lengths_refuse, list_refuses, start_by_birth, files_refuse, birth_number, run_months}
 use Rattle.engine.proofs.started_run.Goals as goal
 
@@ -21,28 +20,25 @@ returns-in_default c =
     let whole = run_refused steps_a_day (files_in c.args.files.now) c.args.blood.now WrongListLength (list_refuses _ _ c.in_ok-check_lengths.ensures (λ e. false≢true (c.in_default.ensures.variant.1 (omega (arith, e))))) in
     record { value = whole.0; blood_after = whole.1 }
 
-pub returns-in_err-scenario : goal.returns-in_err-scenario
-returns-in_err-scenario c =
-    let p = err_from_is_err_and c.from_residual-in_err-scenario.result c.from_residual-in_err-scenario.ensures.1 in
-    let number = files_refuse _ _ c.in_ok-check_lengths.ensures (c.in-Some.ensures.variant.0 refl) _ c.in_err-scenario.ensures.refusal in
+pub returns-in_err-accepted : goal.returns-in_err-accepted
+returns-in_err-accepted c =
+    let p = err_from_is_err_and c.from_residual-in_err-accepted.result c.from_residual-in_err-accepted.ensures.1 in
+    let number = files_refuse _ _ c.in_ok-check_lengths.ensures (c.in-Some.ensures.variant.0 refl) _ c.in_err-accepted.ensures.number in
     let whole = run_refused steps_a_day (files_in c.args.files.now) c.args.blood.now _ number in
     record { value = rw (p.1, p.2) whole.0; blood_after = c.in-Some.ensures.cases.same ∙ whole.1 }
-
-pub invariant_of-accepted : goal.invariant_of-accepted
-invariant_of-accepted c = record { decoded = files_read_decoded c.in_ok-scenario.ensures refl }
 
 pub returns-in_err-child : goal.returns-in_err-child
 returns-in_err-child c =
     let p = err_from_is_err_and c.from_residual-in_err-child.result c.from_residual-in_err-child.ensures.1 in
     let number =
-    birth_number _ (c.in_err-child.ensures ∙ birth_files_read c.in_ok-scenario.ensures refl) ∙ sym (start_by_birth _ _ c.in_ok-check_lengths.ensures (c.in-Some.ensures.variant.0 refl))
+    birth_number _ (c.in_err-child.ensures ∙ birth_files_read c.in_ok-accepted.ensures.child) ∙ sym (start_by_birth _ _ c.in_ok-check_lengths.ensures (c.in-Some.ensures.variant.0 refl))
     in
     let whole = run_refused steps_a_day (files_in c.args.files.now) c.args.blood.now _ number in
     record { value = rw (p.1, p.2) whole.0; blood_after = c.in-Some.ensures.cases.same ∙ whole.1 }
 
 pub returns : goal.returns
 returns c =
-    let born = c.in_ok-child.ensures ∙ birth_files_read c.in_ok-scenario.ensures refl in
+    let born = c.in_ok-child.ensures ∙ birth_files_read c.in_ok-accepted.ensures.child in
     let starts = birth_number _ born ∙ sym (start_by_birth _ _ c.in_ok-check_lengths.ensures (c.in-Some.ensures.variant.0 refl)) in
-    let whole = run_months c.in_ok-scenario.ensures refl steps_a_day c.args.blood.now starts born (c.months.ensures.value, rw c.in-Some.ensures.cases.same at c.months.ensures.blood_after) in
+    let whole = run_months c.in_ok-accepted.ensures.child steps_a_day c.args.blood.now starts born (c.months.ensures.value, rw c.in-Some.ensures.cases.same at c.months.ensures.blood_after) in
     record { value = whole.0; blood_after = whole.1 }

@@ -1,7 +1,7 @@
--- `routes::monthly_sums` meets its contract: accepted files give the months what they need.
-use Rattle.std.proofs.Common.{refl}
-use Rattle.engine.proofs.FilesDecoded.{files_read_decoded}
+-- `routes::monthly_sums` meets its contract: a month more is stored.
+use Rattle.std.proofs.Common.{arith}
+use Rattle.routes.proofs.MonthSums.{stored_next}
 use Rattle.routes.proofs.monthly_sums.Goals as goal
 
-pub invariant_of-accepted : goal.invariant_of-accepted
-invariant_of-accepted c = record { decoded = files_read_decoded c.in-Ok.ensures refl }
+pub loop-done-preserved : goal.loop-done-preserved
+loop-done-preserved c = stored_next c.loop-done.invariant (omega arith) c.sums_in.ensures

@@ -3,4 +3,4 @@ use Rattle.routes.proofs.MonthSums.{SumsStored}
 use Rattle.routes.proofs.monthly_sums.Given as goal
 
 abbrev pub invariant-loop-done : goal.invariant-loop-done
-invariant-loop-done l = SumsStored l.accepted.0.now l.accepted.1.0.now l.sum-items l.done
+invariant-loop-done l = SumsStored l.accepted.scenario.now l.accepted.table.now l.sum-items l.done
