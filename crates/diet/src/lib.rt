@@ -10,7 +10,8 @@ use site::places::AGES;
 
 mod eaten;
 
-// The diet intakes of all ages. Tried with `array::from_fn`, and the proof did not close: in its closure, where an `Eaten` is made, nothing bounds the age.
+// The diet intakes of all ages. Tried with `array::from_fn`, and the proof did not close: in its closure, where an `Eaten` is made, nothing bounds the age;
+// a function of one age would ask for its range again, which `Eaten` is there to spare.
 pub fn diets_of(figures: &FoodsFigures) -> [u64; AGES]
     ensures { result ≡ diets_of figures.now.figures }
 {

@@ -16,7 +16,7 @@ pub struct FoodsFigures {
     pub ghost within: { FoodsLimits figures },
 }
 
-// Each reader has its own bound: one method that reads from a place would promise none of them.
+// Each reader promises the bound of its figures: one method that reads from any place would promise none.
 impl FoodsFigures {
     // The grams of a food a day at an age.
     pub fn grams_at(&self, age: usize, food: Food) -> u64

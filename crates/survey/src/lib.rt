@@ -57,7 +57,8 @@ impl<'a> ReadyFiles<'a> {
     }
 }
 
-// What a row answers, of what is kept of it.
+// What a row answers, of what is kept of it. `ReadyFiles` is made here and in `group`, and is no method of `Accepted`: it follows from what the files are,
+// which a child's type does not hold.
 pub fn kept_answer(files: &CallFiles, kept: &RowText) -> Result<Option<u32>, Refusal>
     ensures { answer_in result ≡ kept_answer steps_a_day (files_in files.now) kept.now }
 {
