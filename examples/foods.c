@@ -1,6 +1,6 @@
 /* How a firmware runs a card with a foods block: its shares are read for the receipt, the child is born, and each month is made by
- * its own call; then the same by the run in one go. Prints the shares and leadline's lines; fails if the two differ. In the
- * repository's root:
+ * its own call; then the same by the run in one go. Prints the shares, and month, blood and mark as leadline does; fails if the two
+ * differ. In the repository's root:
  *
  *   ./build jurengate
  *   cc -I include examples/foods.c target/staticlib/libjurengate.a -o target/foods

@@ -1,5 +1,5 @@
 //! An independent model of the counter box's engine, written from document 01
-//! ("The counter box: IEUBK in whole numbers"), requests 1, 2 and 4 of document 02 and the
+//! ("The counter box: IEUBK in whole numbers"), requests 1, 2 and 4 to 6 of document 02 and the
 //! agency's papers alone.
 //!
 //! The model is made to be read beside the paper, not to be fast: every sum is

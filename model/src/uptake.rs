@@ -80,23 +80,67 @@ pub fn saturation(site: &Site, book: &Book, month: usize) -> u128 {
     site.saturation * book.rows[month].body / book.rows[SATURATION_MONTH].body
 }
 
-/// Uptake of one eaten medium (U-1): passive, then what saturation lets through.
-pub fn medium_uptake(absorbable: u128, passive: u128, saturation: u128, all_absorbable: u128) -> u128 {
-    let passed = passive * absorbable / 100;
-    passed + (absorbable - passed) * saturation / (saturation + all_absorbable)
+/// The passive part of an eaten medium (U-1a to U-1f): the share of q that passes whatever the saturation.
+pub fn passive_part(q: u128, share: u128) -> u128 {
+    share * q / 100
 }
 
-/// Uptake of the five eaten media together (U-1, U-2).
-pub fn eaten_uptake(site: &Site, eaten: &[u128; EATEN_MEDIA], saturation: u128) -> u128 {
-    let absorbable: [u128; EATEN_MEDIA] = std::array::from_fn(|i| site.absorbed[i] * eaten[i] / 100);
-    let all: u128 = absorbable.iter().sum();
-    (0..EATEN_MEDIA).map(|i| medium_uptake(absorbable[i], site.passive[i], saturation, all)).sum()
+/// The active part of an eaten medium (U-1g to U-1l): what saturation lets through of the rest of its q.
+pub fn active_part(q: u128, passive_part: u128, saturation: u128, all_q: u128) -> u128 {
+    (q - passive_part) * saturation / (saturation + all_q)
+}
+
+/// A day's uptake by its routes, pg. Media stand in the order diet, water, dust, soil, alternate.
+#[derive(Clone, Copy, Debug, PartialEq, Eq)]
+pub struct Routes {
+    /// Passive part of each eaten medium.
+    pub passive: [u128; EATEN_MEDIA],
+    /// Active part of each eaten medium.
+    pub active: [u128; EATEN_MEDIA],
+    /// By air, which is no gut route (U-4).
+    pub air: u128,
+}
+
+impl Routes {
+    /// The routes of five q with their passive shares in %, a saturation and an uptake by air (U-1, U-2).
+    pub fn of_q(
+        q: &[u128; EATEN_MEDIA],
+        shares: &[u128; EATEN_MEDIA],
+        saturation: u128,
+        air: u128,
+    ) -> Routes {
+        let all_q = q.iter().sum();
+        let passive = std::array::from_fn(|medium| passive_part(q[medium], shares[medium]));
+        let active = std::array::from_fn(|medium| active_part(q[medium], passive[medium], saturation, all_q));
+        Routes { passive, active, air }
+    }
+
+    /// The passive parts of the five together.
+    pub fn all_passive(&self) -> u128 {
+        self.passive.iter().sum()
+    }
+
+    /// The active parts of the five together.
+    pub fn all_active(&self) -> u128 {
+        self.active.iter().sum()
+    }
+
+    /// T, the day's uptake (U-5): the sum of the eleven.
+    pub fn uptake(&self) -> u128 {
+        self.all_passive() + self.all_active() + self.air
+    }
+}
+
+/// The routes of the day's uptake in month 1 to 84, or refusal 9.
+pub fn day_routes(site: &Site, book: &Book, month: usize) -> Result<Routes, Refusal> {
+    let age = age_of(month);
+    let intakes = intakes(site, age)?;
+    let q = std::array::from_fn(|medium| site.absorbed[medium] * intakes.eaten[medium] / 100);
+    let air = site.ages[age].air_absorbed * intakes.air / 100;
+    Ok(Routes::of_q(&q, &site.passive, saturation(site, book, month), air))
 }
 
 /// T, the day's uptake in month 1 to 84 (U-5), or refusal 9.
 pub fn day_uptake(site: &Site, book: &Book, month: usize) -> Result<u128, Refusal> {
-    let age = age_of(month);
-    let intakes = intakes(site, age)?;
-    let air = site.ages[age].air_absorbed * intakes.air / 100;
-    Ok(eaten_uptake(site, &intakes.eaten, saturation(site, book, month)) + air)
+    day_routes(site, book, month).map(|routes| routes.uptake())
 }

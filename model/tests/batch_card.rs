@@ -8,7 +8,7 @@ use jurengate_model::card::{
 use jurengate_model::cards::{book_file, curves, foods_file, published, site_file};
 use jurengate_model::engine::{run, run_foods};
 use jurengate_model::fast;
-use jurengate_model::printout::month_line;
+use jurengate_model::printout::blood_fields;
 use jurengate_model::random::{
     self, break_intake, break_texts, field_texts, joined, survey_row, text_faults, FieldTexts, Generator,
     Intake, Range, TextFault,
@@ -457,7 +457,7 @@ fn the_foods_of_a_row_are_those_of_the_run() {
 fn the_printout() {
     let (site, book) = (published::site(), curves::book());
     let blood = card_row(&site, None, &book, ROW.as_bytes()).blood;
-    let decimals = month_line(1, blood).split(' ').nth(1).expect("the blood").to_string();
+    let decimals = blood_fields(1, blood).split(' ').nth(1).expect("the blood").to_string();
     let rows = ["a", "b", "c", ROW, "", "A 1 1 * 200 150 * * * * * *", "A 1 1 24 50001 150 * * * * * *", ROW];
     let due = format!("{decimals}\nrefused 12\n---\nrefused 7\n{decimals}\n");
     assert_eq!(String::from_utf8_lossy(&card_printout(&site, &book, &text(&rows))), due);

@@ -5,7 +5,7 @@ use jurengate_model::book::{Row, D, ROW_FIELDS};
 use jurengate_model::kinetics::{birth_blood, birth_tissue, blood_figure, step, step_uptake};
 use jurengate_model::site::{AgeFigures, DustSource, WaterSource};
 use jurengate_model::uptake::{
-    age_of, air_intake, dust_figure, dust_intake, medium_uptake, soil_intake, water_intake,
+    age_of, air_intake, dust_figure, dust_intake, soil_intake, water_intake, Routes,
 };
 
 /// A row with nothing in it; the figures below fill what they name.
@@ -50,7 +50,9 @@ fn three_waters() {
 
 #[test]
 fn one_medium_alone() {
-    assert_eq!(medium_uptake(2_700_000, 20, 24_300_000, 2_700_000), 2_484_000);
+    let routes = Routes::of_q(&[2_700_000, 0, 0, 0, 0], &[20; 5], 24_300_000, 0);
+    assert_eq!(routes.uptake(), 2_484_000);
+    assert_eq!((routes.all_passive(), routes.all_active()), (540_000, 1_944_000));
 }
 
 #[test]

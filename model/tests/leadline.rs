@@ -6,6 +6,8 @@ mod folder;
 mod program;
 #[path = "support/repository.rs"]
 mod repository;
+#[path = "support/route_cards.rs"]
+mod route_cards;
 #[path = "support/samples.rs"]
 mod samples;
 
@@ -16,6 +18,7 @@ use jurengate_model::printout::printout;
 use jurengate_model::random::{book, damaged, fault, range, row_faults, site, Fault, Generator, Intake};
 use jurengate_model::site::{place, SATURATION_LEAST, SITE_FIELDS};
 use program::{pipe, Program};
+use route_cards::{four_in_balance, mixed, most_active, most_passive, Numbers};
 use std::fs;
 
 const LEADLINE: Program = Program("leadline");
@@ -136,9 +139,50 @@ fn constant_child(mother: u32) -> (Vec<u8>, Vec<u8>) {
 
 #[test]
 fn the_mark_at_30000_and_30001() {
-    for (mother, line) in [(35_295, "84 30.0 -"), (35_296, "84 30.0 W")] {
+    for (mother, line) in [(35_295, "84 30.0 - 0 0"), (35_296, "84 30.0 W 0 0")] {
         let (site, book) = constant_child(mother);
         assert_eq!(last_line(&compare("mark", Some(&site), Some(&book))), line);
+    }
+}
+
+/// What the program prints for a card in which no month is refused, held to the model: a line for each month.
+fn months(name: &str, (fields, rows): &Numbers) -> Vec<String> {
+    let folder = card(name, Some(&site_file(fields)), Some(&book_file(rows)));
+    let printed = LEADLINE.printed(folder.path());
+    assert!(printed == printout(&site_file(fields), &book_file(rows)), "{name}");
+    let lines: Vec<String> = String::from_utf8_lossy(&printed).lines().map(str::to_string).collect();
+    assert_eq!(lines.len(), 84, "{name}");
+    lines
+}
+
+/// The columns of every line: the highest passive sum is over 32 bits, the highest active one over 31, and a pg of diet
+/// takes four from T.
+#[test]
+fn the_passive_and_the_active_sum() {
+    let lines = months("most-passive", &most_passive());
+    assert_eq!(lines[0], "1 3.9 - 5000000000 0");
+    assert!(lines.iter().all(|line| line.ends_with(" 5000000000 0")), "{lines:?}");
+    let lines = months("most-active", &most_active());
+    assert!(lines[0].ends_with(" - 0 3571428570") && lines[23].ends_with(" - 0 454545450"), "{lines:?}");
+    for (diet, columns) in [(0, " - 0 500000"), (1, " - 0 499996")] {
+        let lines = months("four-in-balance", &four_in_balance(diet));
+        assert!(lines.iter().all(|line| line.ends_with(columns)), "{lines:?}");
+    }
+}
+
+/// Passive before active, without the air, of the day and not of the month; at the end of an age and at the next one's
+/// beginning.
+#[test]
+fn the_columns_at_the_borders_of_ages() {
+    let rows = curves::rows().try_into().expect("the rows of a book");
+    let lines = months("mixed", &(mixed(), rows));
+    for (month, columns) in [
+        (1, " - 2895425 7492475"),
+        (12, " - 2895425 12231222"),
+        (13, " - 3752635 13775689"),
+        (84, " - 6813153 17766758"),
+    ] {
+        assert!(lines[month - 1].ends_with(columns), "{}", lines[month - 1]);
     }
 }
 

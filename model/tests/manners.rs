@@ -1,4 +1,5 @@
-//! How the programs take their words: `modelline`, `modelcard`, `soak`, `bench`, `fuzz/run`, `bench/leadcard`, and the build without a library.
+//! How the programs take their words: `modelline`, `modelcard`, `soak`, `bench`, `fuzz/run`, `bench/leadcard`, `bench/leadline`,
+//! and the build without a library.
 
 #[path = "support/folder.rs"]
 mod folder;
@@ -32,14 +33,15 @@ fn run(program: impl AsRef<Path>, words: &[&str]) -> Told {
 
 #[test]
 fn help_is_printed() {
-    let (fuzz, bench) = (repository::at("fuzz/run"), repository::at("bench/leadcard"));
+    let [fuzz, cards, months] = ["fuzz/run", "bench/leadcard", "bench/leadline"].map(repository::at);
     let usages = [
         (Path::new(MODELLINE), "usage: modelline "),
         (Path::new(MODELCARD), "usage: modelcard "),
         (Path::new(SOAK), "usage: soak ["),
         (Path::new(BENCH), "usage: bench "),
         (&fuzz, "usage: fuzz/run ["),
-        (&bench, "usage: bench/leadcard ["),
+        (&cards, "usage: bench/leadcard ["),
+        (&months, "usage: bench/leadline ["),
     ];
     for (program, usage) in usages {
         for option in ["--help", "-h"] {
@@ -53,8 +55,8 @@ fn help_is_printed() {
 /// Each word is told, and nothing is run.
 #[test]
 fn words_that_cannot_be_used_are_errors() {
-    let (fuzz, bench) = (repository::at("fuzz/run"), repository::at("bench/leadcard"));
-    let cases: [(&Path, &[&str], &str); 17] = [
+    let [fuzz, cards, months] = ["fuzz/run", "bench/leadcard", "bench/leadline"].map(repository::at);
+    let cases: [(&Path, &[&str], &str); 22] = [
         (Path::new(SOAK), &["many"], "soak: `many` is no number from 1 to 4294967295\n"),
         (Path::new(SOAK), &["0"], "soak: `0` is no number from 1"),
         (Path::new(SOAK), &["1", "-1"], "soak: `-1` is no number from 0"),
@@ -70,13 +72,38 @@ fn words_that_cannot_be_used_are_errors() {
         (&fuzz, &[""], "fuzz: '' is no number of seconds from 1 up"),
         (&fuzz, &["--selfcheck"], "fuzz: '--selfcheck' is no number"),
         (&fuzz, &["1", "2"], "fuzz: one word is due at most"),
-        (&bench, &["0"], "bench/leadcard: one number of megabytes is due at most\n"),
-        (&bench, &["1", "2"], "bench/leadcard: one number of megabytes is due at most\n"),
+        (&cards, &["0"], "bench/leadcard: one number of megabytes is due at most\n"),
+        (&cards, &["1", "2"], "bench/leadcard: one number of megabytes is due at most\n"),
+        (&months, &["0"], "bench/leadline: a number of runs and a program are due at most\n"),
+        (&months, &["many"], "bench/leadline: a number of runs and a program are due at most\n"),
+        (&months, &["1", MODELLINE, "2"], "bench/leadline: a number of runs and a program are due at most\n"),
+        (&months, &["1", "nowhere"], "bench/leadline: `nowhere` is no program ("),
+        (&months, &["1", "/"], "bench/leadline: `/` is no program ("),
     ];
     for (program, words, due) in cases {
         let (status, output, errors) = run(program, words);
         assert_eq!((status, output.as_str()), (Some(2), ""), "{words:?}");
         assert!(errors.starts_with(due) && errors.contains("--help"), "{errors}");
+    }
+}
+
+/// A line for each program: its times, and memory that is more than none and less than that of what started it.
+#[test]
+fn leadline_is_timed_beside_another_program() {
+    let (status, output, errors) = run(repository::at("bench/leadline"), &["5", MODELLINE]);
+    assert_eq!((status, errors.as_str()), (Some(0), ""));
+    let lines: Vec<&str> = output.lines().collect();
+    assert!(lines.len() == 2 && lines[1].starts_with(MODELLINE), "{output}");
+    for line in lines {
+        let (program, figures) = line.split_once(": fastest lot ").expect("a program and its figures");
+        assert!(Path::new(program).is_file(), "{line}");
+        let told: Vec<u64> = figures.split(' ').filter_map(|word| word.parse().ok()).collect();
+        let [fastest, middle, memory] = told[..] else { panic!("three numbers: {line}") };
+        assert_eq!(
+            figures,
+            format!("{fastest} µs a run, middle lot {middle} µs a run, {memory} kB of memory")
+        );
+        assert!(0 < fastest && fastest <= middle && (1..6_000).contains(&memory), "{line}");
     }
 }
 

@@ -100,20 +100,34 @@ fn the_programs_cards_are_samples() {
 #[test]
 fn the_samples_do_what_they_say() {
     let due = [
-        ("default", 84, 0, "84 1.7 -"),
-        ("foods", 84, 0, "84 2.4 -"),
-        ("heavy", 84, 50, "84 21.1 -"),
+        ("default", 84, 0, "84 1.7 - 1220950 4728846"),
+        ("foods", 84, 0, "84 2.4 - 1772050 6766400"),
+        ("heavy", 84, 50, "84 21.1 - 21287650 54190619"),
         ("refused-burden", 27, 2, "refused 22 after 26"),
         ("refused-intake", 49, 0, "refused 9 after 48"),
-        ("survey", 84, 0, "84 3.2 -"),
+        ("survey", 84, 0, "84 3.2 - 2354950 8859840"),
     ];
     let samples = folders();
     assert_eq!(samples.len(), due.len());
     for (sample, due) in samples.iter().zip(due) {
         let printout = text(stored(sample, "printout.txt"));
         let lines: Vec<&str> = printout.lines().collect();
-        let marked = lines.iter().filter(|line| line.ends_with(" W")).count();
+        let marked = lines.iter().filter(|line| line.contains(" W ")).count();
         let name = sample.file_name().and_then(|name| name.to_str()).expect("a name");
         assert_eq!((name, lines.len(), marked, lines[lines.len() - 1]), due);
     }
+}
+
+/// The months in which more goes by the passive route than by the active one.
+#[test]
+fn the_heavy_sample_is_passive_in_its_first_three_months() {
+    let passive_months = |sample: &str| {
+        let printout = text(stored(&repository::at("samples").join(sample), "printout.txt"));
+        let lines = printout.lines().map(|line| line.split(' ').map(str::to_string).collect::<Vec<_>>());
+        let number = |field: &String| field.parse::<u64>().expect("a number of pg");
+        let passive = lines.filter(|line| number(&line[3]) > number(&line[4]));
+        passive.map(|line| line[0].clone()).collect::<Vec<_>>()
+    };
+    assert_eq!(passive_months("heavy"), ["1", "2", "3"]);
+    assert!(passive_months("default").is_empty());
 }

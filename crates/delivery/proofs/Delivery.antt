@@ -88,6 +88,7 @@ delivery =
       route_sums = parts.route_sums_law;
       months_parted = routes.parted_law;
       months_done = routes.done_law;
+      months_kept = routes.kept_law;
       q_sensitivity = sensitivity.sensitivity_law;
       day_sensitivity = sensitivity.exposure_law;
       days_reached = reached.reached;

@@ -74,11 +74,12 @@ pub record Delivery : Type 0 where
   pub air : (e : Exposure) → uptake.AirLaw e
   pub day : (e : Exposure) (weight weight24 : ℕ) → uptake.DayLaw e weight weight24
   pub files_uptake : calls.UptakeLaw
-  -- T is the passive and the active part of each eaten medium and the air's; the two routes' sums are at most 5 × 10^9 together; each month of a run has them
+  -- T is the passive and the active part of each eaten medium and the air's; the two routes' sums are at most 5 × 10^9 together; each month of a run has them, and what is kept of any month is so bounded
   pub parts : (e : Exposure) (weight weight24 : ℕ) → uptake.RoutesLaw e weight weight24
   pub route_sums : (e : Exposure) (weight weight24 : ℕ) → uptake.RouteSumsLaw e weight weight24
   pub months_parted : routes.PartedLaw
   pub months_done : routes.DoneLaw
+  pub months_kept : routes.KeptLaw
   -- if one medium's q rises by h, all else equal, T moves by no less than −4 and no more than h + 4, nor than h; −4 and h are reached
   pub q_sensitivity : sensitivity.SensitivityLaw
   pub day_sensitivity : sensitivity.ExposureLaw
@@ -103,7 +104,7 @@ pub record Delivery : Type 0 where
   -- the words of a state and the state of words undo each other
   pub words_of_state : words.WordsLaw
   pub state_of_words : words.StateWordsLaw
-  -- the printout: its digits, its lines, the bytes that are enough to read, and the lines that document 01 shows
+  -- the printout: its digits, its lines with both sums, the bytes that are enough to read, and the lines that document 01 shows
   pub decimals : text.DecimalLaw
   pub printed_lines : printout.LinesLaw
   pub first_bytes : printout.FirstBytesLaw

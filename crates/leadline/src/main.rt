@@ -4,7 +4,8 @@
 
 use console::FileRoom;
 use files::CallFiles;
-use printout::{LINES, Prepared};
+use printout::LINES;
+use printout::prepared::Prepared;
 use std::io;
 
 // Prints each line, up to the first that cannot be written, whose error it answers. A line is made by its number: no list of them is walked.

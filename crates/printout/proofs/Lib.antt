@@ -2,4 +2,5 @@
 pub mod Bench
 pub mod MonthsAtMost
 pub mod FirstBytes
+pub mod Columns
 pub mod LinesAreWhole

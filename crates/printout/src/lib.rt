@@ -5,32 +5,27 @@ ghost use Rattle.std.specs.Prelude.{◌≡◌, get_or};
 ghost use Rattle.refusal.specs.Refusal.{number_in};
 ghost use Rattle.files.specs.CallFiles.{files_in};
 ghost use Rattle.printout.specs.Printout.{last_line};
-ghost use Rattle.printout.specs.Lines.{prepared_of, line_at};
+ghost use Rattle.routes.specs.Internal.{by_route};
+ghost use Rattle.printout.specs.Lines.{prepared_of, sums_at, line_at};
 ghost use Rattle.printout.specs.Prepared.{prepared_in};
 
 use child::months::MONTHS;
 use files::CallFiles;
-use refusal::Refusal;
+use prepared::Prepared;
+use routes::RouteSums;
 use text::Line;
 
 mod lines; // lines.rt: a month's line and the last line
+pub mod prepared; // prepared.rt: what is kept of a run
 
-// Bytes that every line fits in: the longest has 15 bytes of text, two numbers of ten digits and a line feed.
-pub const LINE_BYTES: usize = 36;
+// Bytes that every line fits in: the longest has a month and two sums of ten digits, a figure of twelve bytes, a mark, four spaces and a line feed.
+pub const LINE_BYTES: usize = 48;
 
 // Lines of a printout at most: 84 months and the last line.
 pub const LINES: u32 = MONTHS as u32 + 1;
 
-// What is kept of a run for its printout. The list has a place for each month that may be done: memory is fixed.
-#[derive(Clone, Copy, Debug, PartialEq, Eq)]
-pub struct Prepared {
-    pub months: u32,
-    pub blood: [u32; MONTHS], // thousandths of ug/dL, of the months done
-    pub end: Result<(), Refusal>, // the refusal that ended the run, if one did
-}
-
 // Runs the files, of any length and content.
-#[tactic(auto, unfolding(crate::specs::Lines::prepared_of))]
+#[tactic(auto, using(routes::proofs::RunSums::kept_within), unfolding(crate::specs::Lines::prepared_of))]
 pub fn prepare(files: &CallFiles) -> Prepared
     ensures { prepared_in result ≡ prepared_of (files_in files.now) }
 {
@@ -39,6 +34,7 @@ pub fn prepare(files: &CallFiles) -> Prepared
     Prepared {
         months: run.months,
         blood,
+        sums: routes::monthly_sums(files),
         end: run.end,
     }
 }
@@ -49,6 +45,15 @@ impl Prepared {
         ensures { result ≡ get_or self.now.blood k 0 }
     {
         self.blood.get(k as usize).copied().unwrap_or(0)
+    }
+
+    // The sums at place k, zeros past the last place.
+    #[tactic(auto, using(crate::proofs::Columns::sums_there))]
+    fn sums(&self, k: u32) -> RouteSums
+        ensures { result ≡ sums_at (by_route self.now.sums) k }
+    {
+        let none = RouteSums::default();
+        self.sums.get(k as usize).copied().unwrap_or(none)
     }
 
     // The last line: that of the refusal that ended the run, or no bytes.
@@ -62,12 +67,12 @@ impl Prepared {
     }
 
     // Line k, from 0: no bytes past the last line.
-    #[tactic(auto, unfolding(crate::specs::Lines::line_at))]
+    #[tactic(auto, using(crate::proofs::Columns::columns_within), unfolding(crate::specs::Lines::line_at))]
     pub fn line(&self, k: u32) -> Line<LINE_BYTES>
         ensures { result ≡ line_at (prepared_in self.now) k }
     {
         if k < self.months {
-            lines::month_line(k + 1, self.figure(k))
+            lines::month_line(k + 1, self.figure(k), self.sums(k))
         } else if k == self.months {
             self.last_line()
         } else {

@@ -1,10 +1,12 @@
 // A month's line, and the last line of a refused run.
-ghost use Rattle.std.specs.Prelude.{◌≡◌};
+ghost use Rattle.std.specs.Prelude.{◌≡◌, ◌+◌, ◌≤◌, ◌++◌, length};
 ghost use Rattle.refusal.specs.Refusal.{number_of};
-ghost use Rattle.printout.specs.Printout.{flag, month_line, refused_line};
+ghost use Rattle.uptake.specs.Laws.{routes_limit};
+ghost use Rattle.printout.specs.Printout.{flag, column, month_line, refused_line};
 
 use super::LINE_BYTES;
 use refusal::Refusal;
+use routes::RouteSums;
 use text::Line;
 
 // A blood figure over this is marked, thousandths of ug/dL.
@@ -17,10 +19,23 @@ fn flag_of(blood: u32) -> u8
     if blood > LEVEL { b'W' } else { b'-' }
 }
 
-// A month's line: month, figure and mark, parted by single spaces.
+// A space and a sum.
+#[tactic(auto, using(std::proofs::Common::append_assoc))]
+fn put_column(line: &mut Line<LINE_BYTES>, sum: u64)
+    requires sum { sum ≤ routes_limit }
+    requires room { length line.old + 11 ≤ 48 }
+    ensures bytes { line.new ≡ line.old ++ column sum }
+    ensures most { length line.new ≤ length line.old + 11 }
+{
+    line.put_byte(b' ');
+    line.put_decimal(sum);
+}
+
+// A month's line: month, figure, mark, passive sum and active sum, parted by single spaces.
 #[tactic(auto, using(std::proofs::Common::append_assoc), unfolding(crate::specs::Printout::month_line))]
-pub fn month_line(month: u32, blood: u32) -> Line<LINE_BYTES>
-    ensures { result ≡ month_line month blood }
+pub fn month_line(month: u32, blood: u32, sums: RouteSums) -> Line<LINE_BYTES>
+    requires { (sums.passive ≤ routes_limit) × (sums.active ≤ routes_limit) }
+    ensures { result ≡ month_line month blood sums }
 {
     let mut line = Line::new();
     line.put_decimal(u64::from(month));
@@ -28,6 +43,8 @@ pub fn month_line(month: u32, blood: u32) -> Line<LINE_BYTES>
     line.put_figure(blood);
     line.put_byte(b' ');
     line.put_byte(flag_of(blood));
+    put_column(&mut line, sums.passive);
+    put_column(&mut line, sums.active);
     line.put_byte(b'\n');
     line
 }

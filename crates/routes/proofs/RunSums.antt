@@ -1,14 +1,18 @@
--- The laws of the sums: a month that a run does has them, and they are parts of its day's T.
+-- The laws of the sums: a month that a run does has them, they are parts of its day's T, and what is kept of a month is bounded.
 -- Assumes nothing.
 use mathlib.Core.Path.{◌≡◌, refl, sym, ap, ◌∙◌}
-use Prim.Native.Nat.{ℕ, zero, suc, ◌+◌, ◌<◌}
+use Prim.Native.Nat.{ℕ, zero, suc, ◌+◌, ◌≤◌, ◌<◌}
 use native.Mathlib.Omega.{arith}
-use lib.ListN.{length}
-use Rattle.numbers.proofs.Refusals.{first_of_none, answer_both}
+use native.Mathlib.Decide.{ℕ_discrete, dec_lt}
+use lib.ListN.{length, get_or, get_or-eq_default}
+use Rattle.numbers.specs.Choice.{tab}
+use Rattle.numbers.proofs.Every.{length-tab, get_or-tab}
+use Rattle.numbers.proofs.Refusals.{first_of_none, answer_both, answer_refused}
 use Rattle.row.specs.Row.{last_month}
 use Rattle.kinetics.specs.declared.State.{State}
 use Rattle.uptake.specs.Age.{age_of}
 use Rattle.uptake.specs.Routes.{day_routes, routes_total}
+use Rattle.uptake.specs.Laws.{routes_limit}
 use Rattle.uptake.proofs.UptakeBounds.{age_law}
 use Rattle.uptake.proofs.RouteSums.{routes_law, route_sums_law}
 use Rattle.child.specs.Answers.{MonthAnswer}
@@ -22,8 +26,9 @@ use Rattle.engine.specs.Birth.{birth_refusal, birth_of}
 use Rattle.engine.specs.Month.{month_refusals, month_refusal, month_of}
 use Rattle.engine.specs.Run.{start_refusal, run_of}
 use Rattle.engine.proofs.FilesDecoded.{files_decoded}
-use Rattle.routes.specs.Sums.{month_routes, month_sums, sums_refusals, sums_refusal}
-use Rattle.routes.specs.Laws.{DoneLaw, PartedLaw}
+use Rattle.routes.specs.MonthlySums.{MonthlySums}
+use Rattle.routes.specs.Sums.{month_routes, month_sums, sums_refusals, sums_refusal, no_sums, kept_sums, monthly_sums}
+use Rattle.routes.specs.Laws.{DoneLaw, PartedLaw, SumsWithin, KeptLaw}
 
 -- ---- months done
 
@@ -83,3 +88,34 @@ parted_law f m h passed =
     let e = exposure_in (scenario_in f) m in
     let within = (files_decoded f (none 0)).exposure (age_of m) (age_law m h) in
     record { total = routes_law e _ _; most = route_sums_law e _ _ within (none 1) }
+
+-- ---- what is kept
+
+-- both sums that are kept of a month together: its own, or zeros
+kept_most : (f : Files) (m : ℕ) → m ≤ last_month → (kept_sums f m).passive + (kept_sums f m).active ≤ routes_limit
+unfolding kept_sums
+kept_most f m h =
+    elim (ℕ_discrete (sums_refusal f m) 0) [
+      | yes z ↦ rw z (parted_law f m h z).most
+      | no z ↦ rw (answer_refused (month_sums f m) (λ n. no_sums) (sums_refusal f m) z) (omega arith)
+    ]
+
+-- the numbers of a list that a function makes are within a bound of its values, and so are the zeros past them
+tab_most : (n most : ℕ) (f : ℕ → ℕ) → ((k : ℕ) → k < n → f k ≤ most) → (k : ℕ) → get_or (tab n f) k 0 ≤ most
+tab_most n most f h k =
+    elim (dec_lt k n) [
+      | yes l ↦ omega (arith, get_or-tab n f k l, h k l)
+      | no l ↦ omega (arith, get_or-eq_default (tab n f) 0 {n = k} (omega (arith, length-tab n f)))
+    ]
+
+pub kept_law : KeptLaw
+unfolding monthly_sums
+kept_law f =
+    let both = λ (k : ℕ) (l : k < last_month). kept_most f (suc k) (omega arith) in
+    record {
+      passive = tab_most last_month routes_limit (λ k. (kept_sums f (suc k)).passive) (λ k l. omega (arith, both k l));
+      active = tab_most last_month routes_limit (λ k. (kept_sums f (suc k)).active) (λ k l. omega (arith, both k l));
+    }
+
+pub kept_within : (f : Files) {sums : MonthlySums} → sums ≡ monthly_sums f → SumsWithin sums
+kept_within f e = rw e (kept_law f)

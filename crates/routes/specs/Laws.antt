@@ -1,13 +1,14 @@
 -- The laws of the sums: each month of a run has them, and they are parts of its day's T.
 -- Assumes nothing.
-use Rattle.std.specs.Prelude.{◌≡◌, ℕ, suc, ◌+◌, ◌≤◌, ◌<◌, length}
+use Rattle.std.specs.Prelude.{◌≡◌, ℕ, suc, ◌+◌, ◌≤◌, ◌<◌, length, get_or}
 use Rattle.row.specs.Row.{last_month}
 use Rattle.uptake.specs.Uptake.{air_uptake}
 use Rattle.uptake.specs.Laws.{routes_limit}
 use Rattle.child.specs.Month.{exposure_in, month_uptake}
 use Rattle.files.specs.Files.{Files, scenario_in, table_in}
 use Rattle.engine.specs.Run.{run_of}
-use Rattle.routes.specs.Sums.{month_sums, sums_refusal}
+use Rattle.routes.specs.MonthlySums.{MonthlySums}
+use Rattle.routes.specs.Sums.{month_sums, sums_refusal, monthly_sums}
 
 -- a month that a run does has its sums
 abbrev pub DoneLaw : Type 0
@@ -21,3 +22,12 @@ pub record IsParted (f : Files) (m : ℕ) : Type 0 where
 -- each month that has its sums
 abbrev pub PartedLaw : Type 0
 PartedLaw = (f : Files) (m : ℕ) → m ≤ last_month → sums_refusal f m ≡ 0 → IsParted f m
+
+-- each of the months' sums is at most 5 × 10^9
+pub record SumsWithin (sums : MonthlySums) : Type 0 where
+  pub passive : (k : ℕ) → get_or sums.passive k 0 ≤ routes_limit
+  pub active : (k : ℕ) → get_or sums.active k 0 ≤ routes_limit
+
+-- what is kept of any files
+abbrev pub KeptLaw : Type 0
+KeptLaw = (f : Files) → SumsWithin (monthly_sums f)

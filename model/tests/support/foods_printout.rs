@@ -2,11 +2,12 @@
 
 use jurengate_model::engine::run_foods;
 use jurengate_model::foods::read_foods;
-use jurengate_model::printout::{month_line, refusal_line};
+use jurengate_model::printout::{blood_fields, refusal_line};
 use jurengate_model::refusal::ACCEPTED;
 use jurengate_model::state::MONTHS;
 
-/// The shares of a foods block that is sound, then `leadline`'s lines, for the three files of a card.
+/// The shares of a foods block that is sound, then a line for each month with month, blood and mark as `leadline` has
+/// them, for the three files of a card. The C calls answer no routes, so there are none here.
 pub fn foods_printout(site: &[u8], foods: &[u8], book: &[u8]) -> String {
     let mut lines = Vec::new();
     if let Ok(read) = read_foods(foods) {
@@ -18,7 +19,7 @@ pub fn foods_printout(site: &[u8], foods: &[u8], book: &[u8]) -> String {
     let mut blood = [0; MONTHS];
     let answer = run_foods(site, Some(foods), book, &mut blood);
     let done = blood.iter().take(answer.months as usize).enumerate();
-    lines.extend(done.map(|(index, &figure)| month_line(index + 1, figure)));
+    lines.extend(done.map(|(index, &figure)| blood_fields(index + 1, figure)));
     if answer.number != ACCEPTED {
         lines.push(refusal_line(answer.number, answer.months));
     }
