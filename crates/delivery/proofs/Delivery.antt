@@ -90,6 +90,7 @@ delivery =
       months_done = routes.done_law;
       months_kept = routes.kept_law;
       q_sensitivity = sensitivity.sensitivity_law;
+      day_of_q = sensitivity.own_q_law;
       day_sensitivity = sensitivity.exposure_law;
       days_reached = reached.reached;
       shares = shares.share_law;

@@ -80,8 +80,9 @@ pub record Delivery : Type 0 where
   pub months_parted : routes.PartedLaw
   pub months_done : routes.DoneLaw
   pub months_kept : routes.KeptLaw
-  -- if one medium's q rises by h, all else equal, T moves by no less than −4 and no more than h + 4, nor than h; −4 and h are reached
+  -- if one medium's q rises by h, all else equal, T moves by no less than −4 and no more than h + 4, nor than h, and T is of the q so; −4 and h are reached
   pub q_sensitivity : sensitivity.SensitivityLaw
+  pub day_of_q : sensitivity.OwnQLaw
   pub day_sensitivity : sensitivity.ExposureLaw
   pub days_reached : reached.Reached
   -- the steps of a day absorb T together

@@ -6,9 +6,8 @@ use Prim.Native.Nat.{ℕ, ◌≤◌}
 use lib.ListN.{get_or, get_or-map}
 use Rattle.uptake.specs.Laws.{routes_limit}
 use Rattle.routes.specs.declared.RouteSums.{RouteSums}
-use Rattle.routes.specs.MonthlySums.{MonthlySums}
+use Rattle.routes.specs.MonthlySums.{MonthlySums, by_route}
 use Rattle.routes.specs.Sums.{no_sums}
-use Rattle.routes.specs.Internal.{by_route}
 use Rattle.routes.specs.Laws.{SumsWithin}
 use Rattle.printout.specs.Lines.{sums_at}
 

@@ -1,7 +1,7 @@
 -- What the code keeps of a run, as the definitions have it: a refusal by its number.
 -- Assumes nothing.
 use Rattle.refusal.specs.Refusal.{number_in}
-use Rattle.routes.specs.Internal.{by_route}
+use Rattle.routes.specs.MonthlySums.{by_route}
 use Rattle.printout.specs.declared.prepared.Prepared as code
 use Rattle.printout.specs.Kept.{Prepared}
 

@@ -4,8 +4,8 @@
 ghost use Rattle.std.specs.Prelude.{◌≡◌, get_or};
 ghost use Rattle.refusal.specs.Refusal.{number_in};
 ghost use Rattle.files.specs.CallFiles.{files_in};
+ghost use Rattle.routes.specs.MonthlySums.{by_route};
 ghost use Rattle.printout.specs.Printout.{last_line};
-ghost use Rattle.routes.specs.Internal.{by_route};
 ghost use Rattle.printout.specs.Lines.{prepared_of, sums_at, line_at};
 ghost use Rattle.printout.specs.Prepared.{prepared_in};
 

@@ -1,5 +1,5 @@
 // What is kept of a run for its printout.
-ghost use Rattle.routes.specs.Internal.{by_route};
+ghost use Rattle.routes.specs.MonthlySums.{by_route};
 ghost use Rattle.routes.specs.Laws.{SumsWithin};
 
 use child::months::MONTHS;

@@ -21,7 +21,8 @@ use Rattle.uptake.specs.Routes.{route_sum, day_routes}
 use Rattle.files.specs.Files.{Files, files_refusal, scenario_in, table_in}
 use Rattle.routes.specs.declared.RouteSums.{RouteSums}
 use Rattle.routes.specs.Sums.{month_routes, sums_of, month_sums, sums_refusal, no_sums, kept_sums, monthly_sums}
-use Rattle.routes.specs.Internal.{exposed_sums, sums_in, by_route}
+use Rattle.routes.specs.MonthlySums.{by_route}
+use Rattle.routes.specs.Internal.{exposed_sums, sums_in}
 
 module _ (e : Exposure) (weight weight24 : ℕ) where
   pub exposed_none : (r : ℕ) → r ≡ intake_refusal e → (r ≡ 0 → ⊥) → no_sums ≡ exposed_sums e weight weight24

@@ -1,4 +1,4 @@
--- The laws of the sums: each month of a run has them, and they are parts of its day's T.
+-- The laws of the sums: each month of a run has them, they are parts of its day's T, and what is kept of any month is bounded.
 -- Assumes nothing.
 use Rattle.std.specs.Prelude.{◌≡◌, ℕ, suc, ◌+◌, ◌≤◌, ◌<◌, length, get_or}
 use Rattle.row.specs.Row.{last_month}

@@ -5,7 +5,8 @@ ghost use Rattle.std.specs.Prelude.{◌≡◌, ◌≤◌};
 ghost use Rattle.row.specs.Row.{last_month};
 ghost use Rattle.files.specs.CallFiles.{files_in};
 ghost use Rattle.routes.specs.Sums.{monthly_sums};
-ghost use Rattle.routes.specs.Internal.{exposed_sums, sums_in, by_route};
+ghost use Rattle.routes.specs.MonthlySums.{by_route};
+ghost use Rattle.routes.specs.Internal.{exposed_sums, sums_in};
 
 use child::given::Accepted;
 use child::months::MONTHS;

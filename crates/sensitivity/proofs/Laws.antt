@@ -9,7 +9,7 @@ use Rattle.site.specs.Fields.{at}
 use Rattle.uptake.specs.Uptake.{saturation_of, absorbable, absorbable_total, air_uptake, passive_uptake, active_uptake, medium_uptake, day_uptake}
 use Rattle.uptake.specs.Media.{passive_from, active_from, medium_from, day_from}
 use Rattle.uptake.proofs.UptakeBounds.{saturation_law}
-use Rattle.sensitivity.specs.Laws.{SensitivityLaw, ExposureLaw}
+use Rattle.sensitivity.specs.Laws.{SensitivityLaw, OwnQLaw, ExposureLaw}
 use Rattle.sensitivity.proofs.Bounds.{day_gains, day_falls}
 
 pub sensitivity_law : SensitivityLaw
@@ -27,14 +27,13 @@ saturation_same : (e e' : Exposure) (weight weight24 : ℕ) → e'.saturation �
 unfolding saturation_of
 saturation_same e e' weight weight24 same = rw same
 
--- T of an exposure is that of its q
-day_is : (e : Exposure) (weight weight24 : ℕ) → day_uptake e weight weight24 ≡ day_from 5 (absorbable e) (at e.passive) (saturation_of e weight weight24) (air_uptake e)
+pub own_q_law : OwnQLaw
 unfolding day_uptake medium_uptake passive_uptake active_uptake absorbable_total day_from medium_from active_from passive_from
-day_is e weight weight24 = refl
+own_q_law e weight weight24 = refl
 
 pub exposure_law : ExposureLaw
 exposure_law e e' weight weight24 h medium lim w one same =
     let after = exchanged (absorbable e') same.passive (saturation_same e e' weight weight24 same.saturation) same.air in
-    rw (day_is e weight weight24, day_is e' weight weight24, after)
+    rw (own_q_law e weight weight24, own_q_law e' weight weight24, after)
     (sensitivity_law (absorbable e) (absorbable e') (at e.passive) (saturation_of e weight weight24) (air_uptake e) h medium one
     lim.passive (saturation_law e weight weight24 lim w))

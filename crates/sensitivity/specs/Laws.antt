@@ -4,8 +4,9 @@
 use Rattle.std.specs.Prelude.{◌≡◌, ℕ, ◌+◌, ◌≤◌, ◌<◌}
 use Rattle.exposure.specs.declared.Exposure.{Exposure}
 use Rattle.exposure.specs.Limits.{ExposureLimits}
+use Rattle.site.specs.Fields.{at}
 use Rattle.uptake.specs.Laws.{Weights}
-use Rattle.uptake.specs.Uptake.{absorbable, air_uptake, day_uptake}
+use Rattle.uptake.specs.Uptake.{saturation_of, absorbable, air_uptake, day_uptake}
 use Rattle.uptake.specs.Media.{day_from}
 
 -- of so many media, one has its q risen by h, and the others have theirs
@@ -26,6 +27,12 @@ SensitivityLaw =
     (q q' percents : ℕ → ℕ) (sat air h medium : ℕ)
     → OneRises 5 q q' h medium → ((other : ℕ) → other < 5 → percents other ≤ 100) → 0 < sat
     → Moves h (day_from 5 q percents sat air) (day_from 5 q' percents sat air)
+
+-- T of an exposure is that of its q, their passive percentages, SAT and the uptake of air
+abbrev pub OwnQLaw : Type 0
+OwnQLaw =
+    (e : Exposure) (weight weight24 : ℕ)
+    → day_uptake e weight weight24 ≡ day_from 5 (absorbable e) (at e.passive) (saturation_of e weight weight24) (air_uptake e)
 
 -- all else equal: what T is made of beside the q
 pub record AllElseEqual (e e' : Exposure) : Type 0 where
