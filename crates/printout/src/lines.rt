@@ -21,9 +21,9 @@ fn flag_of(blood: u32) -> u8
 
 // A space and a sum.
 #[tactic(auto, using(std::proofs::Common::append_assoc))]
-fn put_column(line: &mut Line<LINE_BYTES>, sum: u64)
+fn put_column<const N: usize>(line: &mut Line<N>, sum: u64)
     requires sum { sum ≤ routes_limit }
-    requires room { length line.old + 11 ≤ 48 }
+    requires room { length line.old + 11 ≤ N }
     ensures bytes { line.new ≡ line.old ++ column sum }
     ensures most { length line.new ≤ length line.old + 11 }
 {
