@@ -26,6 +26,7 @@ LAWS_ELSEWHERE = {
     "crates/block/specs/Block.antt": ["Bytes"],
     "crates/block/specs/Writer.antt": ["BodyPasses"],
     "crates/cardsite/specs/Running.antt": ["Running"],
+    "crates/uptake/specs/Routes.antt": ["RoutesLimits"],
 }
 
 # Files of contracts between functions, which promise nothing to a caller of the engine.
@@ -33,6 +34,9 @@ INTERNAL_FILES = ["Bounds.antt", "Decoded.antt", "Internal.antt"]
 
 # Libraries that the exports stand on and that are the C interface too: what they call is open.
 C_LIBRARIES = ["jurengate"]
+
+# Calls that a request asks for by what they answer, though neither a program nor the C interface makes them: [6].
+ASKED = ["uptake::parts::day_routes", "routes::monthly_sums"]
 
 # The head of a definition in a specs file.
 HEAD = r" *(?:(?:abbrev|unfoldable) pub|pub (?:record|data))"
@@ -150,10 +154,26 @@ def methods_in(path):
     return found
 
 
+def types_asked(signature):
+    """The types that a call is handed, and those in their fields: (type, file, its ghost fields), of those that have such."""
+    structs = {}
+    for path in files("crates/*/src/**/*.rt"):
+        for head, body in re.findall(r"^pub struct (\w+)[^{;]*\{\n(.*?)^\}", "\n".join(code(path)), re.M | re.S):
+            structs[head] = (path, body.splitlines())
+    found, left = [], re.findall(r"\b[A-Z]\w*[a-z]\w*", signature)
+    while left:
+        name = left.pop(0)
+        path, body = structs.pop(name, (None, []))
+        ghosts = [line for line in body if line.startswith("    pub ghost ")]
+        found += [(name, path, ghosts)] if ghosts else []
+        left += re.findall(r"\b[A-Z]\w*[a-z]\w*", "\n".join(line for line in body if line not in ghosts))
+    return found
+
+
 def calls():
-    """The open calls, which are those that a program or the C interface makes, and the exported ones: (name, file, signature and
-    contract or None)."""
-    opened, own, exported = set(), [], []
+    """The open calls, which are those that a program or the C interface makes, the asked and the exported ones: (name, file, signature
+    and contract or None)."""
+    opened, own, exported = set(ASKED), [], []
     for path in files("crates/*/src/**/*.rt"):
         lines = code(path)
         exports = re.findall(r'^pub extern "C" fn (\w+)', "\n".join(lines), re.M)

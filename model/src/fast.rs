@@ -14,7 +14,7 @@ use crate::book::{self, column, RowFields, BLOCK_ROWS, BOOK_BYTES, BOOK_ROWS, RO
 use crate::engine::{BirthAnswer, MonthAnswer, RunAnswer};
 use crate::foods::{self, food, local, FOODS, FOODS_FIGURES, FOODS_NUMBER, LOCAL_FOODS};
 use crate::refusal::{Refusal, ACCEPTED};
-use crate::site::{self, place, AGES, EATEN_MEDIA, SATURATION_LEAST, SHARES_MOST, SITE_FIELDS, SITE_NUMBER};
+use crate::site::{self, place, AGES, SATURATION_LEAST, SHARES_MOST, SITE_FIELDS, SITE_NUMBER};
 use crate::state::{self, compartment, State, COMPARTMENTS, LEDGERS, MONTHS, MONTH_LIMIT, TISSUES};
 use crate::uptake;
 
@@ -262,22 +262,8 @@ fn read_yard(site: &[u8; BLOCK_BYTES], foods: Option<&[u8]>) -> Result<(Fields, 
     Ok((fields, diets))
 }
 
-/// A day's uptake: the passive and the active part of each eaten medium, and what comes by air.
-struct Routes {
-    passive: [u64; EATEN_MEDIA],
-    active: [u64; EATEN_MEDIA],
-    air: u64,
-}
-
-impl Routes {
-    /// T.
-    fn uptake(&self) -> u64 {
-        self.passive.iter().sum::<u64>() + self.active.iter().sum::<u64>() + self.air
-    }
-}
-
-/// The day's uptake of a month by its routes, or refusal 9.
-fn day_routes(f: &Fields, diets: &Diets, rows: &Rows, month: usize) -> Result<Routes, Refusal> {
+/// T of a month, or refusal 9.
+fn day_uptake(f: &Fields, diets: &Diets, rows: &Rows, month: usize) -> Result<u64, Refusal> {
     let age = (month - 1) / 12;
     let diet = diets[age];
     let at = |index: usize| u64::from(f[index]);
@@ -307,16 +293,15 @@ fn day_routes(f: &Fields, diets: &Diets, rows: &Rows, month: usize) -> Result<Ro
     let weight = |month: usize| u64::from(rows[month][column::BODY]);
     let saturation = at(place::SATURATION) * weight(month) / weight(uptake::SATURATION_MONTH);
     let eaten = [diet, water, dust_eaten, soil_eaten, aged(place::ALTERNATE)];
-    let q: [u64; EATEN_MEDIA] =
-        std::array::from_fn(|medium| at(place::ABSORBED + medium) * eaten[medium] / 100);
+    let q: [u64; 5] = std::array::from_fn(|medium| at(place::ABSORBED + medium) * eaten[medium] / 100);
     let total = saturation + q.iter().sum::<u64>();
-    let (mut passive, mut active) = ([0; EATEN_MEDIA], [0; EATEN_MEDIA]);
+    let mut uptake = aged(place::AIR_ABSORBED) * air / 100;
     for (medium, q) in q.iter().enumerate() {
-        passive[medium] = at(place::PASSIVE + medium) * q / 100;
+        let passive = at(place::PASSIVE + medium) * q / 100;
         // The product is at most 10^9 × 1.25×10^10.
-        active[medium] = (q - passive[medium]) * saturation / total;
+        uptake += passive + (q - passive) * saturation / total;
     }
-    Ok(Routes { passive, active, air: aged(place::AIR_ABSORBED) * air / 100 })
+    Ok(uptake)
 }
 
 /// Rates and divisors of a month.
@@ -373,7 +358,7 @@ fn step(
 fn step_month(f: &Fields, diets: &Diets, rows: &Rows, mut state: State) -> Result<(State, u32), Refusal> {
     let month = state.month as usize + 1;
     let row = &rows[month];
-    let t = day_routes(f, diets, rows, month)?.uptake();
+    let t = day_uptake(f, diets, rows, month)?;
     let shares: [u64; 6] = std::array::from_fn(|k| t * (k as u64 + 1) / 6 - t * k as u64 / 6);
     let rates = rates(row);
     for _day in 0..30 {

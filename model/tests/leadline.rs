@@ -155,8 +155,8 @@ fn months(name: &str, (fields, rows): &Numbers) -> Vec<String> {
     lines
 }
 
-/// The columns of every line: the highest passive sum is over 32 bits, the highest active one over 31, and a pg of diet
-/// takes four from T.
+/// The columns of cards known beforehand: the highest passive sum is over 32 bits, the highest active one over 31, and a pg
+/// of diet takes four from T.
 #[test]
 fn the_passive_and_the_active_sum() {
     let lines = months("most-passive", &most_passive());

@@ -87,7 +87,7 @@ fn words_that_cannot_be_used_are_errors() {
     }
 }
 
-/// A line for each program: its times, and memory that is more than none and less than that of what started it.
+/// A line for each program: its times, and memory that is more than none and under 6 MB, less than the Python needs that started it.
 #[test]
 fn leadline_is_timed_beside_another_program() {
     let (status, output, errors) = run(repository::at("bench/leadline"), &["5", MODELLINE]);

@@ -81,7 +81,7 @@ fn the_routes_are_those_of_the_equations() {
     );
 }
 
-/// The columns of two media that differ in their passive share alone, and of one that is all passive.
+/// Parts of five media, worked out by hand: two differ in their passive share alone, and one is all passive.
 #[test]
 fn parts_known_beforehand() {
     let routes = Routes::of_q(&[1_000, 1_000, 999, 7, 0], &[20, 0, 100, 33, 50], 9_018, 5);

@@ -74,13 +74,15 @@ pub record Delivery : Type 0 where
   pub air : (e : Exposure) → uptake.AirLaw e
   pub day : (e : Exposure) (weight weight24 : ℕ) → uptake.DayLaw e weight weight24
   pub files_uptake : calls.UptakeLaw
-  -- T is the passive and the active part of each eaten medium and the air's; the two routes' sums are at most 5 × 10^9 together; each month of a run has them, and what is kept of any month is so bounded
+  -- T is the passive and the active part of each eaten medium and the air's; the two routes' sums are at most 5 × 10^9 together; each month
+  -- of a run has them, and those that are kept of any month are so bounded
   pub parts : (e : Exposure) (weight weight24 : ℕ) → uptake.RoutesLaw e weight weight24
   pub route_sums : (e : Exposure) (weight weight24 : ℕ) → uptake.RouteSumsLaw e weight weight24
   pub months_parted : routes.PartedLaw
   pub months_done : routes.DoneLaw
   pub months_kept : routes.KeptLaw
-  -- if one medium's q rises by h, all else equal, T moves by no less than −4 and no more than h + 4, nor than h, and T is of the q so; −4 and h are reached
+  -- if one medium's q rises by h, all else equal, T moves by no less than −4, no more than h + 4, and no more than h; T of any exposure is
+  -- that of its own q; −4 and h are reached
   pub q_sensitivity : sensitivity.SensitivityLaw
   pub day_of_q : sensitivity.OwnQLaw
   pub day_sensitivity : sensitivity.ExposureLaw

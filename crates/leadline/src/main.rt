@@ -1,4 +1,4 @@
-// Prints the blood lead of a child, a line for each month, from site.lkb and book.lkb in the current folder.
+// Prints a child's blood lead and what it takes up in a day by the two gut routes, a line for each month, from site.lkb and book.lkb in the current folder.
 // A file that is missing or cannot be opened counts as empty. If reading fails, what was read until then counts as the file.
 #![tactic(auto)]
 

@@ -1,4 +1,4 @@
--- The lines that document 01 shows.
+-- The lines that document 01 shows, with the two sums of document 02, [6].
 -- Assumes nothing.
 use mathlib.Core.Path.{refl}
 use mathlib.Core.List.{[]}

@@ -10,7 +10,8 @@ abbrev pub sums : ℕ → ℕ → RouteSums
 sums passive active = record { passive = passive; active = active }
 
 pub record Bench : Type 0 where
-  -- 30,000 gives `30.0 -`, and 30,001 gives `30.0 W`; a passive sum over 32 bits: `7 30.0 - 5000000000 0`
+  -- 30,000 gives `30.0 -`, and 30,001 gives `30.0 W`; with the most that is passive, which is over 32 bits, `7 30.0 - 5000000000 0`,
+  -- and the most that is active, `84 30.0 W 0 3571428570`
   pub below : month_line 7 30_000 (sums 5_000_000_000 0)
       ≡ 55 ∷ 32 ∷ 51 ∷ 48 ∷ 46 ∷ 48 ∷ 32 ∷ 45 ∷ 32 ∷ 53 ∷ 48 ∷ 48 ∷ 48 ∷ 48 ∷ 48 ∷ 48 ∷ 48 ∷ 48 ∷ 48 ∷ 32 ∷ 48 ∷ 10 ∷ []
   pub over : month_line 84 30_001 (sums 0 3_571_428_570)

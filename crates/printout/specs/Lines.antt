@@ -20,7 +20,7 @@ kept_of r sums = record { refusal = r.refusal; months = length r.figures; blood 
 unfoldable pub prepared_of : Files → Prepared
 prepared_of f = kept_of (run_of steps_a_day f last_month) (monthly_sums f)
 
--- the sums at place k
+-- the sums at place k, zeros past the last
 unfoldable pub sums_at : MonthlySums → ℕ → RouteSums
 sums_at sums k = record { passive = get_or sums.passive k 0; active = get_or sums.active k 0 }
 

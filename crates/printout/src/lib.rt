@@ -18,13 +18,13 @@ use text::Line;
 mod lines; // lines.rt: a month's line and the last line
 pub mod prepared; // prepared.rt: what is kept of a run
 
-// Bytes that every line fits in: the longest has a month and two sums of ten digits, a figure of twelve bytes, a mark, four spaces and a line feed.
+// Bytes that every line fits in: ten for the month and for each sum, the twelve that a figure asks for, a mark, four spaces and a line feed.
 pub const LINE_BYTES: usize = 48;
 
 // Lines of a printout at most: 84 months and the last line.
 pub const LINES: u32 = MONTHS as u32 + 1;
 
-// Runs the files, of any length and content.
+// Runs the files, of any length and content, and keeps the figures and each month's sums.
 #[tactic(auto, using(routes::proofs::RunSums::kept_within), unfolding(crate::specs::Lines::prepared_of))]
 pub fn prepare(files: &CallFiles) -> Prepared
     ensures { prepared_in result ≡ prepared_of (files_in files.now) }
@@ -47,7 +47,7 @@ impl Prepared {
         self.blood.get(k as usize).copied().unwrap_or(0)
     }
 
-    // The sums at place k, zeros past the last place.
+    // The sums at place k, zeros past the last place. By `unwrap_or`: std has an equation for it, and none for `unwrap_or_default`.
     #[tactic(auto, using(crate::proofs::Columns::sums_there))]
     fn sums(&self, k: u32) -> RouteSums
         ensures { result ≡ sums_at (by_route self.now.sums) k }

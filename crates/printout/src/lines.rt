@@ -19,7 +19,7 @@ fn flag_of(blood: u32) -> u8
     if blood > LEVEL { b'W' } else { b'-' }
 }
 
-// A space and a sum.
+// A space and a sum, put into a line of any length N that has room for them.
 #[tactic(auto, using(std::proofs::Common::append_assoc))]
 fn put_column<const N: usize>(line: &mut Line<N>, sum: u64)
     requires sum { sum ≤ routes_limit }

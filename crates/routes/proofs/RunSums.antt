@@ -4,7 +4,7 @@ use mathlib.Core.Path.{◌≡◌, refl, sym, ap, ◌∙◌}
 use Prim.Native.Nat.{ℕ, zero, suc, ◌+◌, ◌≤◌, ◌<◌}
 use native.Mathlib.Omega.{arith}
 use native.Mathlib.Decide.{ℕ_discrete, dec_lt}
-use lib.ListN.{length, get_or, get_or-eq_default}
+use lib.ListN.{length, get_or-eq_default}
 use Rattle.numbers.specs.Choice.{tab}
 use Rattle.numbers.proofs.Every.{length-tab, get_or-tab}
 use Rattle.numbers.proofs.Refusals.{first_of_none, answer_both, answer_refused}
@@ -100,22 +100,24 @@ kept_most f m h =
       | no z ↦ rw (answer_refused (month_sums f m) (λ n. no_sums) (sums_refusal f m) z) (omega arith)
     ]
 
--- the numbers of a list that a function makes are within a bound of its values, and so are the zeros past them
-tab_most : (n most : ℕ) (f : ℕ → ℕ) → ((k : ℕ) → k < n → f k ≤ most) → (k : ℕ) → get_or (tab n f) k 0 ≤ most
-tab_most n most f h k =
-    elim (dec_lt k n) [
-      | yes l ↦ omega (arith, get_or-tab n f k l, h k l)
-      | no l ↦ omega (arith, get_or-eq_default (tab n f) 0 {n = k} (omega (arith, length-tab n f)))
-    ]
-
 pub kept_law : KeptLaw
 unfolding monthly_sums
 kept_law f =
-    let both = λ (k : ℕ) (l : k < last_month). kept_most f (suc k) (omega arith) in
+    let passive = λ (j : ℕ). (kept_sums f (suc j)).passive in
+    let active = λ (j : ℕ). (kept_sums f (suc j)).active in
     record {
-      passive = tab_most last_month routes_limit (λ k. (kept_sums f (suc k)).passive) (λ k l. omega (arith, both k l));
-      active = tab_most last_month routes_limit (λ k. (kept_sums f (suc k)).active) (λ k l. omega (arith, both k l));
+      together =
+          λ k.
+          elim (dec_lt k last_month) [
+            | yes l ↦ rw (get_or-tab last_month passive k l, get_or-tab last_month active k l) (kept_most f (suc k) (omega arith))
+            | no l ↦
+                rw
+                (get_or-eq_default (tab last_month passive) 0 {n = k} (omega (arith, length-tab last_month passive)),
+                  get_or-eq_default (tab last_month active) 0 {n = k} (omega (arith, length-tab last_month active)))
+                (omega arith)
+          ];
     }
 
+-- and so sums that are those kept
 pub kept_within : (f : Files) {sums : MonthlySums} → sums ≡ monthly_sums f → SumsWithin sums
 kept_within f e = rw e (kept_law f)

@@ -23,11 +23,10 @@ pub record IsParted (f : Files) (m : ℕ) : Type 0 where
 abbrev pub PartedLaw : Type 0
 PartedLaw = (f : Files) (m : ℕ) → m ≤ last_month → sums_refusal f m ≡ 0 → IsParted f m
 
--- each of the months' sums is at most 5 × 10^9
+-- both sums of each month are together at most 5 × 10^9
 pub record SumsWithin (sums : MonthlySums) : Type 0 where
-  pub passive : (k : ℕ) → get_or sums.passive k 0 ≤ routes_limit
-  pub active : (k : ℕ) → get_or sums.active k 0 ≤ routes_limit
+  pub together : (k : ℕ) → get_or sums.passive k 0 + get_or sums.active k 0 ≤ routes_limit
 
--- what is kept of any files
+-- so are those that are kept of any files
 abbrev pub KeptLaw : Type 0
 KeptLaw = (f : Files) → SumsWithin (monthly_sums f)

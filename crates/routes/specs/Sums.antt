@@ -31,10 +31,11 @@ sums_refusals f m = files_refusal f ∷ intake_refusal (exposure_in (scenario_in
 unfoldable pub sums_refusal : Files → ℕ → ℕ
 sums_refusal f m = first_of (sums_refusals f m)
 
--- what is kept of month m: its sums, or zeros
+-- zeros
 abbrev pub no_sums : RouteSums
 no_sums = record { passive = 0; active = 0 }
 
+-- what is kept of month m: its sums, or zeros if it has none
 unfoldable pub kept_sums : Files → ℕ → RouteSums
 kept_sums f m = answer_by (sums_refusal f m) (month_sums f m) (λ r. no_sums)
 

@@ -1,4 +1,4 @@
-// The two gut routes of each month, from files of any length and content: what a day of it takes up passively and actively, in pg.
+// The two gut routes of each month, from files of any length and content: what a child takes up passively and actively in a day of it, in pg.
 #![tactic(auto)]
 
 ghost use Rattle.std.specs.Prelude.{◌≡◌, ◌≤◌};

@@ -10,19 +10,17 @@ use Rattle.intake.specs.Intake.{intakes_of}
 use Rattle.uptake.specs.declared.Routes.{Routes}
 use Rattle.uptake.specs.Uptake.{percent_of, saturation_of, passive_uptake, active_uptake, air_uptake}
 use Rattle.uptake.specs.Routes.{day_routes}
-use Rattle.uptake.specs.Internal.{active_by, IsDayRoutes}
-use Rattle.uptake.proofs.RouteSums.{routes_limits}
+use Rattle.uptake.specs.Internal.{active_by}
 
 module _ (p : PassedIntakes) (weight weight24 : ℕ) {sat air : ℕ} {passive active : List ℕ} where
   pub routes_are : sat ≡ saturation_of p.exposure.now.exposure weight weight24
       → passive ≡ tab 5 (passive_uptake p.exposure.now.exposure)
       → active ≡ tab 5 (active_by p.exposure.now.exposure sat)
       → air ≡ percent_of p.exposure.now.exposure.air_absorption p.intakes.air
-      → IsDayRoutes p.exposure.now.exposure weight weight24 (record { passive = passive; active = active; air = air })
+      → ◌≡◌ {A = Routes} (record { passive = passive; active = active; air = air }) (day_routes p.exposure.now.exposure weight weight24)
   unfolding day_routes active_uptake air_uptake intakes_of
   routes_are saturation first second breathed =
       let e = p.exposure.now.exposure in
       let by_active : active ≡ tab 5 (active_uptake e weight weight24) = second ∙ ap (λ (s : ℕ). tab 5 (active_by e s)) saturation in
       let by_air : air ≡ air_uptake e = breathed ∙ ap (λ (x : Intakes). percent_of e.air_absorption x.air) p.own in
-      let value : ◌≡◌ {A = Routes} (record { passive = passive; active = active; air = air }) (day_routes e weight weight24) = rw (first, by_active, by_air) in
-      record { value = value; limits = rw value (routes_limits e weight weight24 p.exposure.now.within p.passed) }
+      rw (first, by_active, by_air)

@@ -15,8 +15,8 @@ use Rattle.intake.specs.Intake.{intake_refusal}
 use Rattle.intake.proofs.Refusal9.{air_most}
 use Rattle.uptake.specs.declared.Routes.{Routes}
 use Rattle.uptake.specs.Uptake.{passive_uptake, active_uptake, medium_uptake, day_uptake}
-use Rattle.uptake.specs.Routes.{day_routes, route_sum, routes_total}
-use Rattle.uptake.specs.Internal.{PartsLimits, RoutesLimits}
+use Rattle.uptake.specs.Routes.{day_routes, route_sum, routes_total, RoutesLimits}
+use Rattle.uptake.specs.Internal.{PartsLimits}
 use Rattle.uptake.specs.Laws.{day_limit, routes_limit, RoutesLaw, RouteSumsLaw}
 use Rattle.uptake.proofs.UptakeBounds.{medium_most, air_law}
 

@@ -1,7 +1,8 @@
 // The day's uptake by its routes (U-1 to U-4).
 ghost use Rattle.std.specs.Prelude.{◌≡◌, ◌≤◌, ◌<◌};
 ghost use Rattle.uptake.specs.Uptake.{absorbable, passive_uptake};
-ghost use Rattle.uptake.specs.Internal.{active_by, IsDayRoutes};
+ghost use Rattle.uptake.specs.Routes.{day_routes, RoutesLimits};
+ghost use Rattle.uptake.specs.Internal.{active_by};
 ghost use Rattle.numbers.specs.Bounds.{Is};
 
 use crate::Routes;
@@ -35,7 +36,8 @@ impl Absorbable<'_> {
 
 // The day's uptake by its routes: of each eaten medium the passive and the active part, and of air (U-4).
 pub fn day_routes(passed: &PassedIntakes, weights: BodyWeights) -> Routes
-    ensures { IsDayRoutes passed.now.exposure.now.exposure weights.month weights.month24 result }
+    ensures value { result ≡ day_routes passed.now.exposure.now.exposure weights.month weights.month24 }
+    ensures limits { RoutesLimits result }
 {
     let saturation = saturation_of(passed.exposure, weights);
     let absorbable = Absorbable::new(passed);

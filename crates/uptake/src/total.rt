@@ -1,6 +1,6 @@
 // The sum over the eaten media, and T, the sum of all (U-5).
-ghost use Rattle.uptake.specs.Routes.{route_sum, routes_total};
-ghost use Rattle.uptake.specs.Internal.{PartsLimits, RoutesLimits};
+ghost use Rattle.uptake.specs.Routes.{route_sum, routes_total, RoutesLimits};
+ghost use Rattle.uptake.specs.Internal.{PartsLimits};
 ghost use Rattle.uptake.specs.Laws.{day_limit, routes_limit};
 ghost use Rattle.numbers.specs.Bounds.{Is};
 

@@ -3,7 +3,7 @@
 use jurengate_model::book::{column, RowFields};
 use jurengate_model::site::{place, EATEN_MEDIA, SITE_FIELDS};
 
-/// What a day brings in a month, pg; media in the order diet, water, dust, soil, alternate.
+/// What a day of a month brings, pg; media in the order diet, water, dust, soil, alternate.
 #[derive(Clone, Copy, Debug, PartialEq, Eq)]
 #[allow(dead_code)] // not every file of tests looks at every part
 pub struct Day {

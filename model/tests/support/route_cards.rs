@@ -36,7 +36,7 @@ pub fn most_passive() -> Numbers {
     (fields, rows())
 }
 
-/// Five q of 10^9, none of it passive, at the highest saturation that files can have: 1.25×10^10.
+/// Five q of 10^9, none of it passive, at the highest saturation that files can have, 1.25×10^10, in all months but 24.
 #[allow(dead_code)] // not every file of tests runs every card
 pub fn most_active() -> Numbers {
     let (mut fields, mut rows) = most_passive();
@@ -65,8 +65,8 @@ pub fn four_in_balance(diet: u32) -> Numbers {
     (fields, rows())
 }
 
-/// A yard in which every medium, every share and every age differs, at a saturation that counts; its book has the
-/// realistic weights.
+/// A yard in which every medium, every share and every age differs, at a saturation that counts. It is run over the
+/// realistic book.
 #[allow(dead_code)]
 pub fn mixed() -> [u32; SITE_FIELDS] {
     let mut fields = published::fields();
