@@ -111,9 +111,10 @@ kept_law f =
           elim (dec_lt k last_month) [
             | yes l ↦ rw (get_or-tab last_month passive k l, get_or-tab last_month active k l) (kept_most f (suc k) (omega arith))
             | no l ↦
-                rw
-                (get_or-eq_default (tab last_month passive) 0 {n = k} (omega (arith, length-tab last_month passive)),
-                  get_or-eq_default (tab last_month active) 0 {n = k} (omega (arith, length-tab last_month active)))
+                rw (
+                  get_or-eq_default (tab last_month passive) 0 {n = k} (omega (arith, length-tab last_month passive)),
+                  get_or-eq_default (tab last_month active) 0 {n = k} (omega (arith, length-tab last_month active)),
+                )
                 (omega arith)
           ];
     }
