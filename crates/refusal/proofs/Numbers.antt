@@ -4,7 +4,7 @@ use mathlib.Core.Path.{◌≡◌, refl}
 use mathlib.Core.Bool.{true, false}
 use native.Mathlib.Omega.{arith}
 use Rattle.refusal.specs.declared.Refusal.{Refusal}
-use Rattle.refusal.specs.declared.Refusal.TheVariants.{WrongLength, WrongListLength, WrongCheck, WrongEdition, WrongNumber, ReservedNotZero, FieldOutsideLimits, RowOutsideLimits, IntakeTooLarge, SharesOver, AmountOver, WrongRow, NoState, LastMonthDone, BurdenTooLarge}
+use Rattle.refusal.specs.declared.Refusal.TheVariants.{WrongLength, WrongListLength, WrongCheck, WrongEdition, WrongNumber, ReservedNotZero, FieldOutsideLimits, RowOutsideLimits, IntakeTooLarge, SharesOver, AmountOver, WrongRow, PlacesOver, ShareAway, NoState, LastMonthDone, BurdenTooLarge}
 use Rattle.std.proofs.Common.{Result, Ok, Err}
 use Rattle.std.specs.Result.{is_err}
 use Rattle.refusal.specs.Refusal.{number_of, number_in}
@@ -22,6 +22,8 @@ some_number IntakeTooLarge e = omega arith
 some_number SharesOver e = omega arith
 some_number AmountOver e = omega arith
 some_number WrongRow e = omega arith
+some_number PlacesOver e = omega arith
+some_number ShareAway e = omega arith
 some_number NoState e = omega arith
 some_number LastMonthDone e = omega arith
 some_number BurdenTooLarge e = omega arith

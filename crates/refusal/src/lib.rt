@@ -7,7 +7,7 @@ ghost use Rattle.refusal.specs.Refusal.{number_of, number_in};
 // A refusal, and its number.
 #[derive(Clone, Copy, Debug, PartialEq, Eq)]
 pub enum Refusal {
-    WrongLength = 1, // of a file, of a writer's body or of its target
+    WrongLength = 1, // of a file, of a writer's body or of a target
     WrongListLength = 2, // of a run's list
     WrongCheck = 3, // of a block, as the next three
     WrongEdition = 4,
@@ -19,6 +19,8 @@ pub enum Refusal {
     SharesOver = 10, // of a foods block, as the next
     AmountOver = 11,
     WrongRow = 12, // of a card's text
+    PlacesOver = 13, // the shares of a site file's five places together
+    ShareAway = 14, // a share of a place above 0, where edition 1 is to take the file
     NoState = 20, // of no child, as the next two
     LastMonthDone = 21,
     BurdenTooLarge = 22,
