@@ -65,4 +65,4 @@ row_fits_lem c passed fields was = row_fit c passed fields was
 
 pub row_within : RowWithin
 unfolding row_scenario scenario_of
-row_within c passed s was age h = exposure_within (row_scenario c s) (row_fit c passed s.fields was).fit age h
+row_within c passed s was places age h = exposure_within (row_scenario c s) (row_fit c passed s.fields was).fit places age h

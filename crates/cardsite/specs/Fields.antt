@@ -30,6 +30,6 @@ row_fields c fields =
     (given (singly absorbed_dust_at) c.absdust
     (given (singly absorbed_soil_at) c.abssoil (media_fields c fields))))
 
--- the scenario of a row: that of its fields, with the diets that the files give
+-- the scenario of a row: that of its fields, with the places and the diets that the files give
 unfoldable pub row_scenario : Card → Scenario → Scenario
-row_scenario c s = with_diets s.diets (scenario_of (row_fields c s.fields))
+row_scenario c s = with_diets s.diets (scenario_of (row_fields c s.fields) s.dust_places)

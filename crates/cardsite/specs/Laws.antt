@@ -3,6 +3,7 @@
 use Rattle.std.specs.Prelude.{◌≡◌, false, List, ℕ, ◌≤◌, length}
 use Rattle.site.specs.declared.Scenario.{Scenario}
 use Rattle.site.specs.Fields.{last_age, field_count}
+use Rattle.site.specs.Limits.{PlacesWithin}
 use Rattle.site.specs.Scenario.{mother_of}
 use Rattle.site.specs.Laws.{Fits}
 use Rattle.exposure.specs.Exposure.{exposure_at}
@@ -26,8 +27,8 @@ RowFits = (c : Card) → over_limit c ≡ false → (fields : List ℕ) → Fits
 -- so a row's exposures are within the limits at each age, as an accepted file's are
 abbrev pub RowWithin : Type 0
 RowWithin =
-    (c : Card) → over_limit c ≡ false → (s : Scenario) → Fits s.fields → (age : ℕ) → age ≤ last_age
-    → ExposureLimits (exposure_at (row_scenario c s) age)
+    (c : Card) → over_limit c ≡ false → (s : Scenario) → Fits s.fields → PlacesWithin s.dust_places → (age : ℕ)
+    → age ≤ last_age → ExposureLimits (exposure_at (row_scenario c s) age)
 
 -- a row changes the exposure of each age by its figures alone
 abbrev pub RowExposures : Type 0

@@ -25,6 +25,7 @@ row_exposure c e =
       water = e.water;
       soil = or_own (soil_in c) e.soil;
       dust = or_own (dust_in c) e.dust;
+      dust_places = e.dust_places;
       eaten = e.eaten;
       alternate = or_own c.other e.alternate;
       indoor = e.indoor;

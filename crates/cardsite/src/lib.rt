@@ -79,7 +79,7 @@ fn put_row(card: &Card, fields: &mut [u32; FIELDS])
     fields[places::WATER_MODE] = WaterSource::Constant as u32;
 }
 
-// The scenario of a row: that of its fields, with the diets that the files give.
+// The scenario of a row: that of its fields, with the places and the diets that the files give.
 #[tactic(auto, unfolding(crate::specs::Fields::row_scenario, site::specs::Scenario::scenario_of))]
 pub fn row_scenario(card: &Card, scenario: &Scenario) -> Scenario
     requires { over_limit card.now ≡ false }
@@ -87,7 +87,7 @@ pub fn row_scenario(card: &Card, scenario: &Scenario) -> Scenario
 {
     let mut fields = scenario.fields;
     put_row(card, &mut fields);
-    let own = site::scenario_of(fields);
+    let own = site::scenario_of(fields, scenario.dust_places);
     Scenario {
         diets: scenario.diets,
         ..own

@@ -21,9 +21,14 @@ use Rattle.site.specs.declared.Scenario.{Scenario}
 use Rattle.site.specs.SiteRead.{SiteRead}
 use Rattle.site.specs.Fields.{ages, field_count, limits, within_limits, fields_fit}
 use Rattle.site.specs.Scenario.{scenario_of, with_diets, mother_of}
-use Rattle.site.specs.Site.{site_form, site_refusal, read_as, read_site}
+use Rattle.site.specs.declared.edition.Edition.TheVariants.{First, Second}
+use Rattle.site.specs.DustPlaces.{no_places, shares_away}
+use Rattle.site.specs.Site.{site_refusal, read_as, read_site}
+use Rattle.site.specs.Written.{site_body}
+use Rattle.site.specs.Laws.{Within}
+use Rattle.intake.specs.Bench.{worked_places}
 use Rattle.site.proofs.FieldsWithin.{read_refusal}
-use Rattle.site.proofs.ReadBack.{fields_read_back}
+use Rattle.site.proofs.ReadBack.{LaidOut, laid_out, none_within, no_places_laid, fields_read_back}
 use Rattle.foods.specs.Names.{figure_count}
 use Rattle.foods.specs.Laws.{foods_body, FoodsRead}
 use Rattle.foods.proofs.ReadBack.{body_passes as foods-body-passes, figures_read_back}
@@ -41,7 +46,7 @@ use Rattle.kinetics.specs.declared.State.{State}
 use Rattle.kinetics.specs.Step.{burden, burden_limit, next}
 use Rattle.row.proofs.RowWithin.{row_within}
 use Rattle.exposure.specs.Exposure.{exposure_at}
-use Rattle.intake.specs.Intake.{air_intake, water_intake, soil_intake, dust_concentration, dust_intake, intakes_of, refusal_of, intake_refusal}
+use Rattle.intake.specs.Intake.{air_intake, water_intake, soil_intake, dust_concentration, dust_part, dust_intake, intakes_of, refusal_of, intake_refusal}
 use Rattle.uptake.specs.Age.{age_of}
 use Rattle.uptake.proofs.UptakeBounds.{age_law}
 use Rattle.uptake.specs.Uptake.{percent_of, saturation_of, absorbable, absorbable_total, passive_uptake, active_part, active_uptake, medium_uptake, air_uptake, day_uptake}
@@ -60,7 +65,7 @@ use Rattle.engine.specs.Birth.{birth_refusal, birth_of}
 use Rattle.engine.specs.Month.{month_refusal, month_of}
 use Rattle.engine.specs.Run.{start_refusal, run_of}
 use Rattle.conservation.proofs.WholeMonths.{month_refusal_lem, month_accepted}
-use Rattle.conservation.specs.Witness.{witness_fields, witness_row, witness_table, witness_block, witness_site, book_of, witness_book, witness_files, witness_foods, fed_files, SomethingAccepted}
+use Rattle.conservation.specs.Witness.{witness_fields, witness_row, witness_table, witness_block, witness_site, second_site, book_of, witness_book, witness_files, witness_foods, fed_files, SomethingAccepted}
 
 -- ---- the site file
 
@@ -80,14 +85,26 @@ zeros_long : length zeros ≡ block_bytes
 unfolding zeros
 zeros_long = length-replicate {A = ℕ} block_bytes 0
 
-site_body_long : length (body_of site_form witness_fields) ≡ check_at
-site_body_long = (body_passes site_form witness_fields (omega (arith, fields_long)) (omega arith) (omega arith) (omega (arith, fields_long))).long
+-- zero shares and figures, and the worked places, laid out in the two editions
+first_laid : LaidOut First witness_fields no_places (site_body First witness_fields no_places)
+first_laid = no_places_laid First witness_fields fields_long fields_fit_lem
 
-site_read : read_site witness_site ≡ read_as witness_fields
+site_read : read_site witness_site ≡ read_as witness_fields no_places
 unfolding witness_site
 site_read =
-    ap read_site (sym (written-sealed (body_of site_form witness_fields) zeros site_body_long zeros_long))
-    ∙ fields_read_back witness_fields zeros fields_long fields_fit_lem zeros_long
+    ap read_site (sym (written-sealed (site_body First witness_fields no_places) zeros first_laid.passes.long zeros_long))
+    ∙ fields_read_back First witness_fields no_places zeros fields_long refl (none_within witness_fields fields_fit_lem) zeros_long
+
+worked_within : Within witness_fields worked_places
+unfolding shares_away sum_to
+worked_within = record { fields_fit = fields_fit_lem; places_fit = refl; away_fits = refl }
+
+second_read : read_site second_site ≡ read_as witness_fields worked_places
+unfolding second_site
+second_read =
+    let laid = laid_out Second witness_fields worked_places fields_long refl worked_within in
+    ap read_site (sym (written-sealed (site_body Second witness_fields worked_places) zeros laid.passes.long zeros_long))
+    ∙ fields_read_back Second witness_fields worked_places zeros fields_long refl worked_within zeros_long
 
 -- ---- the book
 
@@ -184,7 +201,7 @@ book_reads =
 
 pub site_long : length witness_site ≡ block_bytes
 unfolding witness_site
-site_long = length-sealed (body_of site_form witness_fields) site_body_long
+site_long = length-sealed (site_body First witness_fields no_places) first_laid.passes.long
 
 all_book_long : length witness_book ≡ book_bytes
 unfolding witness_book
@@ -194,7 +211,11 @@ site_passes : site_refusal witness_site ≡ 0
 unfolding read_as
 site_passes = sym (read_refusal witness_site) ∙ ap (λ (x : SiteRead). x.refusal) site_read
 
-site_scenario : (read_site witness_site).scenario ≡ scenario_of witness_fields
+second_passes : site_refusal second_site ≡ 0
+unfolding read_as
+second_passes = sym (read_refusal second_site) ∙ ap (λ (x : SiteRead). x.refusal) second_read
+
+site_scenario : (read_site witness_site).scenario ≡ scenario_of witness_fields no_places
 unfolding read_as
 site_scenario = ap (λ (x : SiteRead). x.scenario) site_read
 
@@ -350,17 +371,17 @@ both_long : length_refusal witness_files ≡ 0
 unfolding unless
 both_long = rw (eq-eqb (length witness_site) block_bytes site_long, eq-eqb (length witness_book) book_bytes all_book_long)
 
-reads : Reads witness_files (scenario_of witness_fields)
+reads : Reads witness_files (scenario_of witness_fields no_places)
 unfolding files_refusal before_book_refusal
 reads = record { lengths = both_long; files = rw (both_long, site_passes, book_reads.refusal); scenario_is = site_scenario; table_is = book_reads.table }
 
-ages_pass : AgesPass (scenario_of witness_fields)
-unfolding every row witness_row tab witness_fields scenario_of exposure_at air_intake water_intake soil_intake dust_concentration dust_intake intakes_of refusal_of intake_refusal unless
+ages_pass : AgesPass (scenario_of witness_fields no_places)
+unfolding every row witness_row tab witness_fields scenario_of exposure_at air_intake water_intake soil_intake dust_concentration shares_away dust_part dust_intake intakes_of refusal_of intake_refusal unless
     sum_to percent_of saturation_of absorbable absorbable_total passive_uptake active_part active_uptake medium_uptake air_uptake day_uptake
 ages_pass = record { mother = refl; intakes = refl; uptakes = refl }
 
-uptake_is : uptake_at (scenario_of witness_fields) 0 ≡ day_brings
-unfolding row witness_row tab witness_fields scenario_of exposure_at air_intake water_intake soil_intake dust_concentration dust_intake intakes_of
+uptake_is : uptake_at (scenario_of witness_fields no_places) 0 ≡ day_brings
+unfolding row witness_row tab witness_fields scenario_of exposure_at air_intake water_intake soil_intake dust_concentration shares_away dust_part dust_intake intakes_of
     sum_to percent_of saturation_of absorbable absorbable_total passive_uptake active_part active_uptake medium_uptake air_uptake day_uptake
 uptake_is = refl
 
@@ -373,7 +394,7 @@ unfolding tab worked_foods food_lead in_meat half_bought home_grown caught in_wh
 diets_are = refl
 
 abbrev fed : Scenario
-fed = with_diets diets (scenario_of witness_fields)
+fed = with_diets diets (scenario_of witness_fields no_places)
 
 reads_fed : Reads fed_files fed
 unfolding files_refusal before_book_refusal
@@ -386,12 +407,12 @@ reads_fed =
     }
 
 ages_pass_fed : AgesPass fed
-unfolding every row witness_row tab witness_fields scenario_of exposure_at air_intake water_intake soil_intake dust_concentration dust_intake intakes_of refusal_of intake_refusal unless
+unfolding every row witness_row tab witness_fields scenario_of exposure_at air_intake water_intake soil_intake dust_concentration shares_away dust_part dust_intake intakes_of refusal_of intake_refusal unless
     sum_to percent_of saturation_of absorbable absorbable_total passive_uptake active_part active_uptake medium_uptake air_uptake day_uptake diets
 ages_pass_fed = record { mother = refl; intakes = refl; uptakes = refl }
 
 uptake_fed : uptake_at fed 0 ≡ 11_080
-unfolding row witness_row tab witness_fields scenario_of exposure_at air_intake water_intake soil_intake dust_concentration dust_intake intakes_of
+unfolding row witness_row tab witness_fields scenario_of exposure_at air_intake water_intake soil_intake dust_concentration shares_away dust_part dust_intake intakes_of
     sum_to percent_of saturation_of absorbable absorbable_total passive_uptake active_part active_uptake medium_uptake air_uptake day_uptake diets
 uptake_fed = refl
 
@@ -404,6 +425,7 @@ pub something_accepted : SomethingAccepted
 something_accepted =
     record {
       site = site_passes;
+      second_site = second_passes;
       book = book_reads.refusal;
       birth = ap (λ (x : BirthAnswer). x.refusal) (birth_is reads ages_pass);
       month = first_month_passes reads ages_pass;

@@ -6,6 +6,8 @@ use Rattle.block.specs.Writer.{body_of}
 use Rattle.site.specs.declared.DustSource.TheVariants.{MultipleSource}
 use Rattle.site.specs.declared.WaterSource.TheVariants.{ThreeSources}
 use Rattle.exposure.specs.declared.Exposure.{Exposure}
+use Rattle.site.specs.declared.edition.Edition.TheVariants.{First}
+use Rattle.site.specs.DustPlaces.{no_places}
 use Rattle.site.specs.Site.{site_form}
 use Rattle.row.specs.declared.Rates.{Rates}
 use Rattle.row.specs.declared.Row.{Row}
@@ -30,6 +32,7 @@ bench_exposure =
       water = 200;
       soil = 200_000;
       dust = 0;
+      dust_places = no_places;
       eaten = 100;
       alternate = 0;
       indoor = 30;
@@ -116,6 +119,6 @@ pub record BenchFigures : Type 0 where
   -- M1 25,000,000, P 1,000,000, VP 1,000, VB 2,000
   pub blood : blood_of bench_row (1_000_000 ∷ 25_000_000 ∷ 0 ∷ 0 ∷ 0 ∷ 0 ∷ 0 ∷ []) ≡ 12_703
   -- block of zeros, edition 1
-  pub check : check_of (body_of site_form []) ≡ 2
+  pub check : check_of (body_of (site_form First) []) ≡ 2
   -- months 12, 13, 84
   pub ages : map age_of (12 ∷ 13 ∷ 84 ∷ []) ≡ 0 ∷ 1 ∷ 6 ∷ []

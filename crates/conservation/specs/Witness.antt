@@ -6,7 +6,11 @@ use Rattle.numbers.specs.Choice.{tab}
 use Rattle.block.specs.Block.{byte_at, block_bytes}
 use Rattle.block.specs.Writer.{sealed, body_of}
 use Rattle.site.specs.Fields.{ages}
-use Rattle.site.specs.Site.{site_form, site_refusal}
+use Rattle.site.specs.declared.edition.Edition.TheVariants.{First, Second}
+use Rattle.site.specs.DustPlaces.{no_places}
+use Rattle.site.specs.Site.{site_refusal}
+use Rattle.site.specs.Written.{site_body}
+use Rattle.intake.specs.Bench.{worked_places}
 use Rattle.foods.specs.Foods.{foods_refusal}
 use Rattle.foods.specs.Laws.{foods_body}
 use Rattle.diet.specs.Bench.{worked_foods}
@@ -65,7 +69,11 @@ unfoldable pub witness_block : ℕ → List ℕ
 witness_block n = sealed (body_of (book_form n) (block_part witness_table n))
 
 unfoldable pub witness_site : List ℕ
-witness_site = sealed (body_of site_form witness_fields)
+witness_site = sealed (site_body First witness_fields no_places)
+
+-- and in edition 2, with five places whose shares are 100 together
+unfoldable pub second_site : List ℕ
+second_site = sealed (site_body Second witness_fields worked_places)
 
 -- a book of these blocks
 unfoldable pub book_of : (ℕ → List ℕ) → List ℕ
@@ -87,6 +95,7 @@ fed_files = files_with witness_site witness_foods witness_book
 -- they are accepted, by the readers, at birth, in the first month, whose T is not 0, and in a run of 84 months; with the foods too
 pub record SomethingAccepted : Type 0 where
   pub site : site_refusal witness_site ≡ 0
+  pub second_site : site_refusal second_site ≡ 0
   pub book : book_refusal witness_book ≡ 0
   pub birth : (birth_of witness_files).refusal ≡ 0
   pub month : (month_of steps_a_day (birth_of witness_files).state witness_files).refusal ≡ 0

@@ -4,7 +4,7 @@ use mathlib.Core.Path.{◌≡◌, sym, ap₂, ◌∙◌}
 use mathlib.Core.List.{List}
 use Prim.Native.Nat.{ℕ}
 use Rattle.site.specs.declared.Scenario.{Scenario}
-use Rattle.site.proofs.FieldsWithin.{accepted_fit, mother_accepted}
+use Rattle.site.proofs.FieldsWithin.{accepted_fit, accepted_places, mother_accepted}
 use Rattle.exposure.proofs.ExposureWithin.{exposure_within}
 use Rattle.book.proofs.RowsWithin.{rows_within}
 use Rattle.files.specs.Files.{Files, files_refusal, scenario_in, table_in}
@@ -17,7 +17,7 @@ use Rattle.engine.specs.Internal.{AreThoseOf}
 pub files_decoded : (f : Files) → files_refusal f ≡ 0 → Decoded (scenario_in f) (table_in f)
 files_decoded f passed =
     record {
-      exposure = exposure_within (scenario_in f) (accepted_fit f.site (site_passed f passed));
+      exposure = exposure_within (scenario_in f) (accepted_fit f.site (site_passed f passed)) (accepted_places f.site (site_passed f passed));
       mother = mother_accepted f.site (site_passed f passed);
       row = rows_within f.book (book_passed f passed);
     }

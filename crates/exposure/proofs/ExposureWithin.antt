@@ -12,9 +12,10 @@ use Rattle.numbers.proofs.Every.{get_or-tab}
 use Rattle.numbers.proofs.Lists.{each_get_or}
 use Rattle.site.specs.declared.Scenario.{Scenario}
 use Rattle.site.specs.Fields.{last_age, ages, singles_at, singles, at, limits, by_age, diet_group, single, fields_fit}
+use Rattle.site.specs.Limits.{PlacesWithin}
 use Rattle.site.specs.Scenario.{diets_in, scenario_of, with_diets}
 use Rattle.site.specs.Site.{site_fields, read_site}
-use Rattle.site.proofs.FieldsWithin.{field_le, range_le, saturation_ge, shares_le, fields_passed, accepted_scenario, accepted_fit}
+use Rattle.site.proofs.FieldsWithin.{field_le, range_le, saturation_ge, shares_le, accepted_within, accepted_scenario, accepted_fit, accepted_places}
 use Rattle.exposure.specs.Exposure.{percentages_from, exposure_at}
 use Rattle.exposure.specs.Limits.{ExposureLimits}
 use Rattle.exposure.specs.Laws.{ExposureWithin, OwnDietWithin}
@@ -44,10 +45,10 @@ module _ (fields : List ℕ) (fit : fields_fit fields ≡ true) where
       )
       medium
 
--- of a scenario whose fields are within their limits
-pub exposure_within : (s : Scenario) → fields_fit s.fields ≡ true → (age : ℕ) → age ≤ last_age → ExposureLimits (exposure_at s age)
+-- of a scenario whose fields and places are within their limits
+pub exposure_within : (s : Scenario) → fields_fit s.fields ≡ true → PlacesWithin s.dust_places → (age : ℕ) → age ≤ last_age → ExposureLimits (exposure_at s age)
 unfolding exposure_at limits every
-exposure_within s fit age h =
+exposure_within s fit places age h =
     let f = s.fields in
     record {
       air = group_le f fit 0 100_000_000 refl (omega arith) age h;
@@ -57,6 +58,7 @@ exposure_within s fit age h =
       water = group_le f fit 5 10_000 refl (omega arith) age h;
       soil = group_le f fit 6 50_000_000 refl (omega arith) age h;
       dust = group_le f fit 7 50_000_000 refl (omega arith) age h;
+      places = places;
       eaten = group_le f fit 8 1_000 refl (omega arith) age h;
       alternate = group_le f fit 9 1_000_000_000 refl (omega arith) age h;
       indoor = single_le f fit 0 (omega arith);
@@ -75,7 +77,7 @@ exposure_within s fit age h =
     }
 
 pub exposure_accepted : ExposureWithin
-exposure_accepted site diets passed age h = exposure_within (with_diets diets (read_site site).scenario) (accepted_fit site passed) age h
+exposure_accepted site diets passed age h = exposure_within (with_diets diets (read_site site).scenario) (accepted_fit site passed) (accepted_places site passed) age h
 
 -- the diets of fields within their limits
 diet_le : (fields : List ℕ) → fields_fit fields ≡ true → (age : ℕ) → age ≤ last_age → at (diets_in fields) age ≤ 1_000_000_000
@@ -85,4 +87,4 @@ diet_le fields fit age h =
 
 pub diet_accepted : OwnDietWithin
 unfolding exposure_at scenario_of
-diet_accepted site passed age h = rw (accepted_scenario site passed) (diet_le (site_fields site) (fields_passed site passed) age h)
+diet_accepted site passed age h = rw (accepted_scenario site passed) (diet_le (site_fields site) (accepted_within site passed).fields_fit age h)

@@ -44,7 +44,7 @@ abbrev pub foods_refusal_in : FoodsFile → ℕ
 foods_refusal_in none = 0
 foods_refusal_in (handed foods) = foods_refusal foods
 
--- why files are refused before the book: 1, the site file's 3 to 7, the foods block's own
+-- why files are refused before the book: 1, the site file's 3 to 7 and 13, the foods block's own
 abbrev pub before_book_refusals : Files → List ℕ
 before_book_refusals f = length_refusal f ∷ site_refusal f.site ∷ foods_refusal_in f.foods ∷ []
 

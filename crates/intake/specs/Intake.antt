@@ -1,13 +1,16 @@
--- What a child takes in a day, in pg (document 01, "Intake and uptake", E-1 to E-11), and refusal 9 (with a diet, document 02, [1]).
+-- What a child takes in a day, in pg (document 01, "Intake and uptake", E-1 to E-11; dust in six parts, E-12, by document 02, [7]), and refusal 9 (with a
+-- diet, document 02, [1]).
 -- Assumes nothing.
 use Rattle.std.specs.Prelude.{ℕ, ◌+◌, ◌-◌, ◌*◌, ◌/◌, Bool, ◌&&◌, [], ◌∷◌, leb}
 use Rattle.numbers.specs.Choice.{unless}
+use Rattle.numbers.specs.Sums.{sum_to}
 use Rattle.site.specs.declared.DustSource.{DustSource}
 use Rattle.site.specs.declared.DustSource.TheVariants.{Given, MultipleSource}
 use Rattle.site.specs.declared.WaterSource.{WaterSource}
 use Rattle.site.specs.declared.WaterSource.TheVariants.{Constant, ThreeSources}
 use Rattle.exposure.specs.declared.Exposure.{Exposure}
 use Rattle.site.specs.Fields.{at}
+use Rattle.site.specs.DustPlaces.{place_count, share_of, figure_of, shares_away}
 use Rattle.intake.specs.declared.Intakes.{Intakes}
 
 -- air (E-1 to E-3): floor(air × (100h + (24−h) × indoor) × litres / 2,400,000), h the hours out
@@ -33,7 +36,7 @@ water_intake e = water_intake_by e.water_source e
 unfoldable pub soil_intake : Exposure → ℕ
 soil_intake e = e.soil * e.eaten * e.weight_soil / 100
 
--- dust: the given figure; or multiple source (E-11), floor((10 × contribution × soil + factor × air) / 1000)
+-- the house's dust: the given figure; or multiple source (E-11), floor((10 × contribution × soil + factor × air) / 1000)
 abbrev pub dust_concentration_by : DustSource → Exposure → ℕ
 dust_concentration_by Given e = e.dust
 dust_concentration_by MultipleSource e = (10 * e.contribution * e.soil + e.air_to_dust * e.air) / 1000
@@ -41,9 +44,24 @@ dust_concentration_by MultipleSource e = (10 * e.contribution * e.soil + e.air_t
 unfoldable pub dust_concentration : Exposure → ℕ
 dust_concentration e = dust_concentration_by e.dust_source e
 
--- dust (E-9): the same as soil, with dust and 100−weight_soil
+-- the house gets 100 less the five shares, all subtracted (E-9.5)
+abbrev pub house_share : Exposure → ℕ
+house_share e = 100 - shares_away e.dust_places
+
+-- a part of the dust, by a figure and a share (E-9b with E-10; E-12): floor(figure × eaten × (100−weight_soil) × share / 10,000)
+unfoldable pub dust_part : Exposure → ℕ → ℕ → ℕ
+dust_part e figure share = figure * e.eaten * (100 - e.weight_soil) * share / 10_000
+
+-- the house's, and that of place k: work, school, daycare, second home, other (E-12a to E-12e)
+abbrev pub house_dust : Exposure → ℕ
+house_dust e = dust_part e (dust_concentration e) (house_share e)
+
+abbrev pub place_dust : Exposure → ℕ → ℕ
+place_dust e k = dust_part e (figure_of e.dust_places k) (share_of e.dust_places k)
+
+-- dust (E-9 with E-12; document 02, [7]): the house's part and the five, whatever the dust mode
 unfoldable pub dust_intake : Exposure → ℕ
-dust_intake e = dust_concentration e * e.eaten * (100 - e.weight_soil) / 100
+dust_intake e = house_dust e + sum_to place_count (place_dust e)
 
 -- the five eaten media, in the order of the site file's percentages
 abbrev pub diet_medium : ℕ

@@ -1,8 +1,13 @@
--- The laws of refusal 9.
+-- The laws of the dust in six parts, and of refusal 9.
 -- Assumes nothing.
-use Rattle.std.specs.Prelude.{◌≡◌, ◌≤◌}
+use Rattle.std.specs.Prelude.{◌≡◌, ◌≤◌, ◌-◌, ◌*◌, ◌/◌}
+use Rattle.site.specs.Limits.{AtHome}
 use Rattle.exposure.specs.declared.Exposure.{Exposure}
-use Rattle.intake.specs.Intake.{air_intake, water_intake, soil_intake, dust_intake, intake_refusal}
+use Rattle.intake.specs.Intake.{air_intake, water_intake, soil_intake, dust_concentration, dust_intake, intake_refusal}
+
+-- where no share is above 0, as in edition 1, the dust is document 01's (E-9), whatever the figures of the places
+abbrev pub HomeLaw : Type 0
+HomeLaw = (e : Exposure) → AtHome e.dust_places → dust_intake e ≡ dust_concentration e * e.eaten * (100 - e.weight_soil) / 100
 
 -- an air, water, soil and dust intake that 9 lets pass
 pub record FourPassed (e : Exposure) : Type 0 where

@@ -1,8 +1,9 @@
-// What a child takes in a day: the intake of each medium (E-1 to E-11), and refusal 9.
+// What a child takes in a day: the intake of each medium (E-1 to E-12), and refusal 9.
 #![tactic(auto)]
 
-ghost use Rattle.std.specs.Prelude.{◌≡◌};
-ghost use Rattle.intake.specs.Intake.{air_intake, mixed_water, water_intake, soil_intake, dust_concentration, dust_intake, intakes_of, refusal_of};
+ghost use Rattle.std.specs.Prelude.{◌≡◌, ◌≤◌, ◌<◌};
+ghost use Rattle.site.specs.DustPlaces.{place_count};
+ghost use Rattle.intake.specs.Intake.{air_intake, mixed_water, water_intake, soil_intake, dust_concentration, dust_part, house_dust, place_dust, dust_intake, intakes_of, refusal_of};
 ghost use Rattle.numbers.specs.Bounds.{Is};
 ghost use Rattle.refusal.specs.Refusal.{number_in};
 
@@ -10,6 +11,7 @@ use exposure::MEDIA;
 use exposure::limited::LimitedExposure;
 use numbers::HUNDREDTHS;
 use refusal::Refusal;
+use site::dust_places::{self, DUST_PLACES};
 use site::{DustSource, WaterSource};
 
 pub mod passed; // passed.rt: an exposure with its intakes, which 9 lets pass
@@ -21,6 +23,8 @@ const AIR_SCALE: u64 = 2_400_000; // 24 hours, 100 hundredths, 1,000 litres in a
 const THOUSANDTHS: u64 = 1_000; // of µg/g, in which soil and dust are
 
 const THOUSANDTHS_A_HUNDREDTH: u64 = 10;
+
+const PART_SCALE: u64 = 10_000; // percent of dust in what is eaten, and hundredths of a share
 
 const INTAKE_MOST: u64 = 1_000_000_000; // pg/day, of air, water, soil, dust and diet
 
@@ -93,7 +97,7 @@ fn soil_intake(limited: &LimitedExposure) -> u64
     exposure.soil * exposure.eaten * exposure.weight_soil / HUNDREDTHS
 }
 
-// The dust figure, in pg/mg: given, or by the multiple source formula (E-11).
+// The house's dust figure, in pg/mg: given, or by the multiple source formula (E-11).
 #[tactic(auto, unfolding(crate::specs::Intake::dust_concentration))]
 fn dust_concentration(limited: &LimitedExposure) -> u64
     ensures { Is (dust_concentration limited.now.exposure) 1_050_000_000 result }
@@ -109,15 +113,43 @@ fn dust_concentration(limited: &LimitedExposure) -> u64
     }
 }
 
-// Dust (E-9).
+// A part of the dust, by a figure, pg/mg, and a share, hundredths (E-9b with E-10; E-12).
+#[tactic(auto, using(crate::proofs::Fits::part_most), unfolding(crate::specs::Intake::dust_part))]
+fn dust_part(limited: &LimitedExposure, figure: u64, share: u64) -> u64
+    requires { (figure ≤ 1_050_000_000) × (share ≤ 100) }
+    ensures { Is (dust_part limited.now.exposure figure share) 1_050_000_000_000 result }
+{
+    let exposure = &limited.exposure;
+    let weight_dust = HUNDREDTHS - exposure.weight_soil;
+    figure * exposure.eaten * weight_dust * share / PART_SCALE
+}
+
+// The house's part: of what the five places leave (E-9.5), by its own figure.
+fn house_dust(limited: &LimitedExposure) -> u64
+    ensures { Is (house_dust limited.now.exposure) 1_050_000_000_000 result }
+{
+    let share = HUNDREDTHS - dust_places::shares_away(&limited.exposure.dust_places);
+    dust_part(limited, dust_concentration(limited), share)
+}
+
+// The part of a place (E-12a to E-12e).
+fn place_dust(limited: &LimitedExposure, k: usize) -> u64
+    requires { k < place_count }
+    ensures { Is (place_dust limited.now.exposure k) 1_050_000_000_000 result }
+{
+    let place = limited.exposure.dust_places[k];
+    dust_part(limited, u64::from(place.dust), u64::from(place.share))
+}
+
+// Dust (E-9 with E-12): the house's part and those of the five places.
 #[tactic(auto, unfolding(crate::specs::Intake::dust_intake))]
 fn dust_intake(limited: &LimitedExposure) -> u64
     ensures { result ≡ dust_intake limited.now.exposure }
 {
-    let exposure = &limited.exposure;
-    let concentration = dust_concentration(limited);
-    let weight_dust = HUNDREDTHS - exposure.weight_soil;
-    concentration * exposure.eaten * weight_dust / HUNDREDTHS
+    let away = (0..DUST_PLACES)
+        .map(|k| place_dust(limited, k))
+        .sum::<u64>();
+    house_dust(limited) + away
 }
 
 // All intakes of an exposure, each computed once.

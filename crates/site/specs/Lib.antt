@@ -1,6 +1,9 @@
 pub mod Fields
+pub mod DustPlaces
+pub mod Limits
 pub mod Scenario
 pub mod SiteRead
 pub mod Site
+pub mod Written
 pub mod Put
 pub mod Laws

@@ -1,9 +1,14 @@
-// The limits of a site file's fields.
+// The limits of a site file's fields, 7, and of its five shares together, 13.
 ghost use Rattle.std.specs.Prelude.{◌≡◌, nat_le};
 ghost use Rattle.std.specs.List.{list_all, zip};
+ghost use Rattle.numbers.specs.Choice.{first_of};
+ghost use Rattle.refusal.specs.Refusal.{number_in};
 ghost use Rattle.site.specs.Fields.{within_limits, fields_fit};
+ghost use Rattle.site.specs.DustPlaces.{limit_refusals};
 
 use super::places;
+use crate::dust_places::{DUST_PLACES, DustPlace, places_fit, shares_away};
+use refusal::Refusal;
 
 // The most of each field, in the fields' order and units: the check walks this list, and the leaflet is printed from it.
 pub const LIMITS: [u32; places::FIELDS] = [
@@ -103,7 +108,8 @@ pub const LIMITS: [u32; places::FIELDS] = [
     100_000, // mother, thousandths of ug/dL
 ];
 
-// Beside the list, two rules: the least of saturation, and the most of the two water shares together.
+// Beside the list, two rules: the least of saturation, and the most of the two water shares together; the shares of the five places, too, are together
+// at most a whole, else 13.
 pub const SATURATION_LEAST: u32 = 1_000_000; // pg/day
 
 pub const SHARES_MOST: u64 = 100; // hundredths
@@ -133,4 +139,21 @@ pub fn fields_fit(fields: &[u32; places::FIELDS]) -> bool
     let shares = u64::from(fields[places::FIRST_DRAW_SHARE])
         + u64::from(fields[places::FOUNTAIN_SHARE]);
     within_limits(fields) && fields[places::SATURATION] >= SATURATION_LEAST && shares <= SHARES_MOST
+}
+
+// Refused if a field or a place is outside its limits, and then if the shares of the places are together over a whole.
+#[tactic(auto, using(crate::proofs::PlaceLimits::shares_within), unfolding(numbers::specs::Choice::unless))]
+pub fn check(
+    fields: &[u32; places::FIELDS],
+    places: &[DustPlace; DUST_PLACES],
+) -> Result<(), Refusal>
+    ensures { number_in result ≡ first_of (limit_refusals fields.now places.now) }
+{
+    if !(fields_fit(fields) && places_fit(places)) {
+        return Err(Refusal::FieldOutsideLimits);
+    }
+    if shares_away(places) > SHARES_MOST {
+        return Err(Refusal::PlacesOver);
+    }
+    Ok(())
 }

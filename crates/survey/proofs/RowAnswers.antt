@@ -9,7 +9,7 @@ use Rattle.refusal.specs.declared.Refusal.{Refusal}
 use Rattle.refusal.specs.Refusal.{number_of}
 use Rattle.refusal.proofs.Numbers.{some_number}
 use Rattle.site.specs.declared.Scenario.{Scenario}
-use Rattle.site.proofs.FieldsWithin.{accepted_fits, mother_accepted}
+use Rattle.site.proofs.FieldsWithin.{accepted_fits, accepted_places, mother_accepted}
 use Rattle.exposure.proofs.ExposureWithin.{exposure_within}
 use Rattle.book.proofs.RowsWithin.{rows_within}
 use Rattle.files.specs.Files.{Files, files_refusal, scenario_in, table_in}
@@ -43,12 +43,12 @@ course_runs c e = rw e
 
 -- the yard's own scenario is within the limits, and that of a card that runs
 pub ready_decoded : {scenario : Scenario} {table : List ℕ} → Ready scenario table → Decoded scenario table
-ready_decoded {scenario} ready = record { exposure = exposure_within scenario ready.fields.fit; mother = ready.mother; row = ready.row }
+ready_decoded {scenario} ready = record { exposure = exposure_within scenario ready.fields.fit ready.places; mother = ready.mother; row = ready.row }
 
 pub row_decoded : (c : Card) → Running c → (scenario : Scenario) (table : List ℕ) → Ready scenario table → Decoded (row_scenario c scenario) table
 row_decoded c run scenario table ready =
     record {
-      exposure = row_within c run.within scenario ready.fields;
+      exposure = row_within c run.within scenario ready.fields ready.places;
       mother = rw (row_mother c scenario ready.fields.long) ready.mother;
       row = ready.row;
     }
@@ -77,6 +77,7 @@ pub files_ready : (f : Files) → files_refusal f ≡ 0 → Ready (scenario_in f
 files_ready f passed =
     record {
       fields = accepted_fits f.site (site_passed f passed);
+      places = accepted_places f.site (site_passed f passed);
       mother = mother_accepted f.site (site_passed f passed);
       row = rows_within f.book (book_passed f passed);
     }
