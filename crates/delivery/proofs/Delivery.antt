@@ -13,6 +13,12 @@ use Rattle.book.proofs.ReadBack as book-read
 use Rattle.book.proofs.Decodes as book_decodes
 use Rattle.files.proofs.Decodes as files_decodes
 use Rattle.intake.proofs.Refusal9 as intake
+use Rattle.intake.proofs.Home as home
+use Rattle.intake.proofs.Bench as dust
+use Rattle.site.proofs.Editions as editions
+use Rattle.convert.proofs.Conversions as convert
+use Rattle.converted.proofs.SameAnswers as same
+use Rattle.converted.proofs.Conversions as converted
 use Rattle.uptake.proofs.UptakeBounds as uptake
 use Rattle.uptake.proofs.RouteSums as parts
 use Rattle.sensitivity.proofs.Laws as sensitivity
@@ -78,6 +84,8 @@ delivery =
       something_accepted = witness.something_accepted;
       bench_figures = bench.bench_figures;
       worked_diet = worked.worked_diet;
+      worked_dust = dust.worked_dust;
+      dust_at_home = home.home_dust;
       age = uptake.age_law;
       saturation = uptake.saturation_law;
       media = uptake.medium_laws;
@@ -98,7 +106,10 @@ delivery =
       blood_figure = figure.blood_law;
       site_right_check = site.right_check;
       site_body = site_read.body_read_back;
+      first_site_body = site_read.first_body_read_back;
       site_fields = site_read.fields_read_back;
+      site_edition = editions.of_edition;
+      first_places = editions.first_without_places;
       foods_right_check = foods.right_check;
       foods_body = foods_read.body_read_back;
       foods_figures = foods_read.figures_read_back;
@@ -107,6 +118,13 @@ delivery =
       book_numbers = book-read.numbers_read_back;
       book_blocks = book.whole_book;
       book_whole = book-read.book_read_back;
+      converted_up = convert.up;
+      converted_down = convert.down;
+      down_after_up = convert.down_after_up;
+      up_after_down = convert.up_after_down;
+      read_alike_same = same.same_law;
+      up_same = converted.up_same;
+      down_same = converted.down_same;
       words_of_state = words.words_law;
       state_of_words = words.state_words_law;
       decimals = text.decimal_law;

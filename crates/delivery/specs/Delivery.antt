@@ -12,6 +12,7 @@ use Rattle.row.specs.Laws as row
 use Rattle.book.specs.Laws as book
 use Rattle.files.specs.Laws as files
 use Rattle.intake.specs.Laws as intake
+use Rattle.intake.specs.Bench as dust
 use Rattle.uptake.specs.Laws as uptake
 use Rattle.sensitivity.specs.Laws as sensitivity
 use Rattle.sensitivity.specs.Witness as reached
@@ -19,6 +20,8 @@ use Rattle.routes.specs.Laws as routes
 use Rattle.margin.specs.Laws as margin
 use Rattle.blood.specs.Laws as blood
 use Rattle.steps.specs.Laws as steps
+use Rattle.convert.specs.Laws as convert
+use Rattle.converted.specs.Laws as converted
 use Rattle.conservation.specs.Conservation as conservation
 use Rattle.conservation.specs.Laws as calls
 use Rattle.conservation.specs.Bench as bench
@@ -67,6 +70,9 @@ pub record Delivery : Type 0 where
   pub bench_figures : bench.BenchFigures
   -- a worked diet, food by food
   pub worked_diet : worked.WorkedDiet
+  -- the dust in its six parts, worked; where no share is above 0, as in edition 1, it is document 01's
+  pub worked_dust : dust.WorkedDust
+  pub dust_at_home : intake.HomeLaw
   -- a month's age is one of the site file's; SAT+A is never 0; nothing is taken up that was not taken in; T is at most 6 × 10^9
   pub age : uptake.AgeLaw
   pub saturation : (e : Exposure) (weight weight24 : ℕ) → uptake.SaturationLaw e weight weight24
@@ -95,7 +101,11 @@ pub record Delivery : Type 0 where
   -- a block written from fields within limits reads back as those fields; only a block with the right check is read
   pub site_right_check : site.RightCheck
   pub site_body : site.BodyReadBack
+  pub first_site_body : site.FirstBodyReadBack
   pub site_fields : site.FieldsReadBack
+  -- a site file is accepted as one of its own edition; in edition 1 it has zero shares and figures
+  pub site_edition : site.OfEdition
+  pub first_places : site.FirstWithoutPlaces
   pub foods_right_check : foods.RightCheck
   pub foods_body : foods.BodyReadBack
   pub foods_figures : foods.FiguresReadBack
@@ -104,6 +114,16 @@ pub record Delivery : Type 0 where
   pub book_numbers : book.NumbersReadBack
   pub book_blocks : book.WholeBook
   pub book_whole : book.BookReadBack
+  -- a converted site file is of the other edition, its other fields stay and its shares and figures are zero; each way undoes the other
+  pub converted_up : convert.UpLaw
+  pub converted_down : convert.DownLaw
+  pub down_after_up : convert.DownAfterUp
+  pub up_after_down : convert.UpAfterDown
+  -- and every call but those that read its places or convert it answers what it answered before, with every foods block, book, state, list, row and text,
+  -- refusals too
+  pub read_alike_same : converted.SameLaw
+  pub up_same : converted.UpSame
+  pub down_same : converted.DownSame
   -- the words of a state and the state of words undo each other
   pub words_of_state : words.WordsLaw
   pub state_of_words : words.StateWordsLaw

@@ -3,7 +3,9 @@
 
 ghost use Rattle.std.specs.Prelude.{◌≡◌, length};
 ghost use Rattle.block.specs.Writer.{writer_refusal, written};
+ghost use Rattle.site.specs.DustPlaces.{fields_of};
 ghost use Rattle.site.specs.Site.{read_site};
+ghost use Rattle.convert.specs.Convert.{to_second_refusal, to_second, to_first_refusal, to_first};
 ghost use Rattle.foods.specs.Foods.{foods_refusal, foods_figures};
 ghost use Rattle.book.specs.Book.{book_refusal, book_table};
 ghost use Rattle.steps.specs.Steps.{steps_a_day};
@@ -18,6 +20,7 @@ use book::TABLE_NUMBERS;
 use files::CallFiles;
 use foods::places::FIGURES;
 use jurengate::WORDS;
+use site::dust_places::{self, PLACE_FIELDS};
 use site::places::FIELDS;
 
 // Reads a site file: its refusal, and its fields, zeros if it is refused. A `match`, since the closure of `map_or` would need a clause that says what it
@@ -33,6 +36,40 @@ pub extern "C" fn jurengate_read_site(site: &[u8], fields: &mut [u32; FIELDS]) -
         Err(_) => [0; FIELDS],
     };
     refusal::number_in(&site_read)
+}
+
+// Reads the five places of a site file: its refusal, and a share and a dust figure of each, zeros in edition 1 and if it is refused.
+#[unsafe(no_mangle)]
+pub extern "C" fn jurengate_read_places(site: &[u8], places: &mut [u32; PLACE_FIELDS]) -> u32
+    ensures value { result ≡ (read_site site.now).refusal }
+    ensures places_after { places.new ≡ fields_of (read_site site.now).scenario.dust_places }
+{
+    let places_read = site::read_site(site);
+    *places = match places_read {
+        Ok(scenario) => dust_places::fields_of(&scenario.dust_places),
+        Err(_) => [0; PLACE_FIELDS],
+    };
+    refusal::number_in(&places_read)
+}
+
+// Fills a target of 512 bytes with a site file of edition 1 in edition 2, with zero shares and figures; if it refuses, it leaves the target.
+#[unsafe(no_mangle)]
+pub extern "C" fn jurengate_site_to_edition_2(site: &[u8], target: &mut [u8]) -> u32
+    ensures value { result ≡ to_second_refusal site.now target.old }
+    ensures target_after { target.new ≡ to_second site.now target.old }
+{
+    let converted = convert::to_second(site, target);
+    refusal::number_in(&converted)
+}
+
+// And with one of edition 2, no share of which is above 0, in edition 1.
+#[unsafe(no_mangle)]
+pub extern "C" fn jurengate_site_to_edition_1(site: &[u8], target: &mut [u8]) -> u32
+    ensures value { result ≡ to_first_refusal site.now target.old }
+    ensures target_after { target.new ≡ to_first site.now target.old }
+{
+    let converted = convert::to_first(site, target);
+    refusal::number_in(&converted)
 }
 
 // Reads a rate book: its refusal, and its 85 rows of 23 numbers, zeros if it is refused.

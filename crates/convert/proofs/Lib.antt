@@ -1,0 +1,2 @@
+pub mod ConvertAnswers
+pub mod Conversions

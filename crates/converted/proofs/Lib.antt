@@ -1,0 +1,5 @@
+pub mod SameUptake
+pub mod SameChild
+pub mod SameRows
+pub mod SameAnswers
+pub mod Conversions
