@@ -12,9 +12,10 @@
 enum { STACK_BYTES = 1 << 20, PAGE_BYTES = 4096, PAINT = 0xA5 };
 
 static uint8_t site[JURENGATE_SITE_BYTES], foods[JURENGATE_FOODS_BYTES], book[JURENGATE_BOOK_BYTES];
-static uint8_t target[JURENGATE_BLOCK_BYTES];
+static uint8_t target[JURENGATE_BLOCK_BYTES], second_edition[JURENGATE_SITE_BYTES];
 static uint64_t state[JURENGATE_STATE_WORDS];
-static uint32_t fields[JURENGATE_SITE_FIELDS], eaten[JURENGATE_FOODS_FIGURES], table[JURENGATE_TABLE_NUMBERS];
+static uint32_t fields[JURENGATE_SITE_FIELDS], places[JURENGATE_SITE_PLACES];
+static uint32_t eaten[JURENGATE_FOODS_FIGURES], table[JURENGATE_TABLE_NUMBERS];
 static uint32_t figures[JURENGATE_MONTHS], blood, months, refusal;
 
 static void nothing(void) {}
@@ -36,6 +37,11 @@ static void month_foods(void) {
 static void run_foods(void) {
     refusal = jurengate_run_foods(site, sizeof site, foods, sizeof foods, book, sizeof book, figures, JURENGATE_MONTHS,
                                   state, &months);
+}
+static void read_places(void) { refusal = jurengate_read_places(second_edition, sizeof second_edition, places); }
+static void site_to_edition_2(void) { refusal = jurengate_site_to_edition_2(site, sizeof site, target, sizeof target); }
+static void site_to_edition_1(void) {
+    refusal = jurengate_site_to_edition_1(second_edition, sizeof second_edition, target, sizeof target);
 }
 
 /* A row with every figure, run to the last month, without foods and with them. */
@@ -119,11 +125,16 @@ int main(int argc, char **argv) {
     fill(argv[1], site, sizeof site);
     fill(argv[2], foods, sizeof foods);
     fill(argv[3], book, sizeof book);
+    if (jurengate_site_to_edition_2(site, sizeof site, second_edition, sizeof second_edition) != JURENGATE_ACCEPTED) {
+        fprintf(stderr, "stack: %s is not of edition 1\n", argv[1]);
+        return 2;
+    }
     size_t thread = peak(nothing);
     struct { const char *name; void (*call)(void); } calls[] = {
         {"read_site", read_site}, {"read_book", read_book}, {"write_block", write_block},
         {"birth", birth}, {"month", month}, {"run", run},
         {"read_foods", read_foods}, {"birth_foods", birth_foods}, {"month_foods", month_foods}, {"run_foods", run_foods},
+        {"read_places", read_places}, {"site_to_edition_2", site_to_edition_2}, {"site_to_edition_1", site_to_edition_1},
         {"card_row", card_row}, {"card_group", card_group},
     };
     for (size_t i = 0; i < sizeof calls / sizeof calls[0]; i++) {

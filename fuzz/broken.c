@@ -15,6 +15,10 @@ uint32_t __real_jurengate_birth(const uint8_t *, size_t, const uint8_t *, size_t
 uint32_t __real_jurengate_month(const uint8_t *, size_t, const uint8_t *, size_t, uint64_t *, uint32_t *);
 uint32_t __real_jurengate_run(const uint8_t *, size_t, const uint8_t *, size_t, uint32_t *, size_t, uint64_t *, uint32_t *);
 
+uint32_t __real_jurengate_read_places(const uint8_t *, size_t, uint32_t *);
+uint32_t __real_jurengate_site_to_edition_2(const uint8_t *, size_t, uint8_t *, size_t);
+uint32_t __real_jurengate_site_to_edition_1(const uint8_t *, size_t, uint8_t *, size_t);
+
 uint32_t __real_jurengate_read_foods(const uint8_t *, size_t, uint32_t *);
 uint32_t __real_jurengate_birth_foods(const uint8_t *, size_t, const uint8_t *, size_t, const uint8_t *, size_t, uint64_t *);
 uint32_t __real_jurengate_month_foods(const uint8_t *, size_t, const uint8_t *, size_t, const uint8_t *, size_t, uint64_t *,
@@ -41,6 +45,19 @@ static int fault_is(int fault) {
 
 static volatile uint8_t sink;
 
+/* Where a site file of edition 2 has its places, and where they end. */
+enum { PLACES_AT = 380, PLACES_END = 420, CHECK_AT = JURENGATE_BODY_BYTES };
+
+/* The five shares of a site file together, 0 of one that is refused. */
+static uint32_t shares_of(const uint8_t *site, size_t site_len) {
+    uint32_t places[JURENGATE_SITE_PLACES], sum = 0;
+    __real_jurengate_read_places(site, site_len, places);
+    for (int place = 0; place < JURENGATE_SITE_PLACES; place += 2) {
+        sum += places[place];
+    }
+    return sum;
+}
+
 uint32_t __wrap_jurengate_read_site(const uint8_t *site, size_t site_len, uint32_t *fields) {
     uint32_t number = __real_jurengate_read_site(site, site_len, fields);
     if (fault_is(1) && number == JURENGATE_WRONG_LENGTH) {
@@ -48,6 +65,37 @@ uint32_t __wrap_jurengate_read_site(const uint8_t *site, size_t site_len, uint32
     }
     if (fault_is(2) && number == JURENGATE_FIELD_OUTSIDE_LIMITS) {
         fields[JURENGATE_SITE_MOTHER] = 1; /* leaves a field of a refused file */
+    }
+    if (fault_is(26) && shares_of(site, site_len) == 100) {
+        memset(fields, 0, JURENGATE_SITE_FIELDS * sizeof *fields);
+        return JURENGATE_PLACES_OVER_100; /* refuses shares of exactly 100 */
+    }
+    return number;
+}
+
+uint32_t __wrap_jurengate_read_places(const uint8_t *site, size_t site_len, uint32_t *places) {
+    uint32_t number = __real_jurengate_read_places(site, site_len, places);
+    if (fault_is(27) && number == JURENGATE_PLACES_OVER_100) {
+        memcpy(places, site + PLACES_AT, JURENGATE_SITE_PLACES * sizeof *places); /* the places of a refused file */
+    }
+    return number;
+}
+
+uint32_t __wrap_jurengate_site_to_edition_2(const uint8_t *site, size_t site_len, uint8_t *target, size_t target_len) {
+    uint32_t number = __real_jurengate_site_to_edition_2(site, site_len, target, target_len);
+    if (fault_is(28) && number == JURENGATE_FIELD_OUTSIDE_LIMITS) {
+        memcpy(target, site, JURENGATE_SITE_BYTES); /* fills the target of a refused file */
+    }
+    return number;
+}
+
+uint32_t __wrap_jurengate_site_to_edition_1(const uint8_t *site, size_t site_len, uint8_t *target, size_t target_len) {
+    uint32_t number = __real_jurengate_site_to_edition_1(site, site_len, target, target_len);
+    if (fault_is(29) && number == JURENGATE_PLACES_OVER_100) {
+        return JURENGATE_SHARE_ABOVE_0; /* 14 before 13 */
+    }
+    if (fault_is(30) && number == JURENGATE_ACCEPTED && site[PLACES_END - 1] != 0) {
+        memcpy(target + CHECK_AT, site + CHECK_AT, JURENGATE_BLOCK_BYTES - CHECK_AT); /* the source's check, with the dropped figures */
     }
     return number;
 }
@@ -80,6 +128,15 @@ uint32_t __wrap_jurengate_birth(const uint8_t *site, size_t site_len, const uint
 uint32_t __wrap_jurengate_month(const uint8_t *site, size_t site_len, const uint8_t *book, size_t book_len, uint64_t *state,
                                 uint32_t *blood) {
     uint64_t month = state[JURENGATE_STATE_MONTH];
+    uint8_t body[JURENGATE_BODY_BYTES], without[JURENGATE_BLOCK_BYTES];
+    uint32_t fields[JURENGATE_SITE_FIELDS];
+    if (fault_is(31) && shares_of(site, site_len) > 0 &&
+        __real_jurengate_read_site(site, site_len, fields) == JURENGATE_ACCEPTED && fields[JURENGATE_SITE_DUST_MODE] == 0) {
+        memcpy(body, site, sizeof body);
+        memset(body + PLACES_AT, 0, PLACES_END - PLACES_AT);
+        __real_jurengate_write_block(body, sizeof body, without, sizeof without);
+        site = without; /* the places are left out in dust mode 0 */
+    }
     uint32_t number = __real_jurengate_month(site, site_len, book, book_len, state, blood);
     if (fault_is(6) && number == JURENGATE_ACCEPTED && month == JURENGATE_MONTHS - 1) {
         state[JURENGATE_STATE_TRABECULAR]++; /* one pg of trabecular lead from nowhere, in the last month alone */

@@ -7,7 +7,7 @@
 
 enum call {
     READ_SITE, READ_BOOK, WRITE_BLOCK, BIRTH, MONTH, RUN, READ_FOODS, BIRTH_FOODS, MONTH_FOODS, RUN_FOODS, CARD_ROW, CARD_GROUP,
-    CALLS
+    READ_PLACES, SITE_TO_EDITION_2, SITE_TO_EDITION_1, CALLS
 };
 
 /* Room for files longer than they should be. */
@@ -27,7 +27,7 @@ struct fuzz_case {
     size_t foods_len;
     size_t book_len;
     size_t text_len;
-    size_t list_len; /* of the run's list, in figures; of the writer's target, in bytes */
+    size_t list_len; /* of the run's list, in figures; of the writer's or a converter's target, in bytes */
     uint64_t state[JURENGATE_STATE_WORDS];
     uint8_t site[SITE_ROOM];
     uint8_t foods[FOODS_ROOM];
@@ -38,6 +38,9 @@ struct fuzz_case {
 void fuzz_case_of(const uint8_t *input, size_t size, struct fuzz_case *asked);
 
 uint32_t model_read_site(const uint8_t *site, size_t site_len, uint32_t fields[JURENGATE_SITE_FIELDS]);
+uint32_t model_read_places(const uint8_t *site, size_t site_len, uint32_t places[JURENGATE_SITE_PLACES]);
+uint32_t model_site_to_edition_2(const uint8_t *site, size_t site_len, uint8_t *target, size_t target_len);
+uint32_t model_site_to_edition_1(const uint8_t *site, size_t site_len, uint8_t *target, size_t target_len);
 uint32_t model_read_book(const uint8_t *book, size_t book_len, uint32_t table[JURENGATE_TABLE_NUMBERS]);
 uint32_t model_write_block(const uint8_t *body, size_t body_len, uint8_t *target, size_t target_len);
 uint32_t model_birth(const uint8_t *site, size_t site_len, const uint8_t *book, size_t book_len,

@@ -31,7 +31,8 @@ static uint8_t paint[OPEN_BYTES];
 static struct fuzz_case asked;
 
 static const char *const call_names[CALLS] = {"read_site",  "read_book",   "write_block", "birth",     "month",    "run",
-                                              "read_foods", "birth_foods", "month_foods", "run_foods", "card_row", "card_group"};
+                                              "read_foods", "birth_foods", "month_foods", "run_foods", "card_row", "card_group",
+                                              "read_places", "site_to_edition_2", "site_to_edition_1"};
 static const char *const memory_names[MEMORIES] = {"site", "foods", "book", "state", "list", "figure", "text", "flag", "next"};
 
 /* The numbers that each call, or a row of a group, can answer, a bit for each. */
@@ -39,14 +40,15 @@ static const char *const memory_names[MEMORIES] = {"site", "foods", "book", "sta
 #define LENGTH_NUMBERS (BIT(ACCEPTED) | BIT(WRONG_LENGTH))
 #define BLOCK_NUMBERS \
     (LENGTH_NUMBERS | BIT(CHECK_WRONG) | BIT(EDITION_WRONG) | BIT(NUMBER_WRONG) | BIT(RESERVED_NOT_ZERO))
-#define FILE_NUMBERS (BLOCK_NUMBERS | BIT(FIELD_OUTSIDE_LIMITS) | BIT(ROW_OUTSIDE_LIMITS))
+#define SITE_NUMBERS (BLOCK_NUMBERS | BIT(FIELD_OUTSIDE_LIMITS) | BIT(PLACES_OVER_100))
+#define FILE_NUMBERS (SITE_NUMBERS | BIT(ROW_OUTSIDE_LIMITS))
 #define FOODS_NUMBERS (BIT(SHARES_TOO_LARGE) | BIT(FOOD_OUTSIDE_LIMITS))
 #define BIRTH_NUMBERS (FILE_NUMBERS | BIT(BURDEN_TOO_LARGE))
 #define MONTH_NUMBERS (BIRTH_NUMBERS | BIT(INTAKE_TOO_LARGE) | BIT(NO_STATE) | BIT(LAST_MONTH_DONE))
 #define RUN_NUMBERS (BIRTH_NUMBERS | BIT(WRONG_LIST_LENGTH) | BIT(INTAKE_TOO_LARGE))
 #define ROW_NUMBERS (BIRTH_NUMBERS | FOODS_NUMBERS | BIT(INTAKE_TOO_LARGE) | BIT(CARD_TEXT_WRONG))
 static const uint32_t answerable[CALLS] = {
-    [READ_SITE] = BLOCK_NUMBERS | BIT(FIELD_OUTSIDE_LIMITS),
+    [READ_SITE] = SITE_NUMBERS,
     [READ_BOOK] = BLOCK_NUMBERS | BIT(ROW_OUTSIDE_LIMITS),
     [WRITE_BLOCK] = LENGTH_NUMBERS,
     [BIRTH] = BIRTH_NUMBERS,
@@ -58,6 +60,9 @@ static const uint32_t answerable[CALLS] = {
     [RUN_FOODS] = RUN_NUMBERS | FOODS_NUMBERS,
     [CARD_ROW] = ROW_NUMBERS,
     [CARD_GROUP] = ROW_NUMBERS,
+    [READ_PLACES] = SITE_NUMBERS,
+    [SITE_TO_EDITION_2] = BLOCK_NUMBERS | BIT(FIELD_OUTSIDE_LIMITS),
+    [SITE_TO_EDITION_1] = SITE_NUMBERS | BIT(SHARE_ABOVE_0),
 };
 
 static uint64_t compared, met[CALLS][NUMBERS], skipped[CALLS], groups[JURENGATE_GROUP_ROWS + 1], decoded[JURENGATE_BOOK_BLOCKS + 1];
@@ -83,14 +88,19 @@ struct calls {
                          uint32_t *, bool *);
     uint32_t (*card_group)(const uint8_t *, size_t, bool, const uint8_t *, size_t, const uint8_t *, size_t, const uint8_t *, size_t,
                            uint32_t *, uint32_t *, size_t *);
+    uint32_t (*read_places)(const uint8_t *, size_t, uint32_t *);
+    uint32_t (*site_to_edition_2)(const uint8_t *, size_t, uint8_t *, size_t);
+    uint32_t (*site_to_edition_1)(const uint8_t *, size_t, uint8_t *, size_t);
 };
 
 static const struct calls engine = {jurengate_read_site,   jurengate_read_book,   jurengate_write_block, jurengate_birth,
                                     jurengate_month,       jurengate_run,         jurengate_read_foods,  jurengate_birth_foods,
-                                    jurengate_month_foods, jurengate_run_foods,   jurengate_card_row,    jurengate_card_group};
+                                    jurengate_month_foods, jurengate_run_foods,   jurengate_card_row,    jurengate_card_group,
+                                    jurengate_read_places, jurengate_site_to_edition_2, jurengate_site_to_edition_1};
 static const struct calls model = {model_read_site, model_read_book,  model_write_block, model_birth,       model_month,
                                    model_run,       model_read_foods, model_birth_foods, model_month_foods, model_run_foods,
-                                   model_card_row,  model_card_group};
+                                   model_card_row,  model_card_group, model_read_places, model_site_to_edition_2,
+                                   model_site_to_edition_1};
 
 static uint32_t answer(const struct calls *by, uint8_t *const at[MEMORIES]) {
     const uint8_t *site = at[SITE], *foods = at[FOODS], *book = at[BOOK];
@@ -115,6 +125,9 @@ static uint32_t answer(const struct calls *by, uint8_t *const at[MEMORIES]) {
     case CARD_GROUP:
         return by->card_group(site, site_len, asked.has_foods, foods, foods_len, book, book_len, at[TEXT], asked.text_len, list,
                               figure, (size_t *)at[NEXT]);
+    case READ_PLACES: return by->read_places(site, site_len, list);
+    case SITE_TO_EDITION_2: return by->site_to_edition_2(site, site_len, at[LIST], asked.list_len);
+    case SITE_TO_EDITION_1: return by->site_to_edition_1(site, site_len, at[LIST], asked.list_len);
     }
     abort();
 }
@@ -128,6 +141,7 @@ static size_t list_bytes(void) {
     case READ_SITE: return JURENGATE_SITE_FIELDS * sizeof(uint32_t);
     case READ_BOOK: return JURENGATE_TABLE_NUMBERS * sizeof(uint32_t);
     case READ_FOODS: return JURENGATE_FOODS_FIGURES * sizeof(uint32_t);
+    case READ_PLACES: return JURENGATE_SITE_PLACES * sizeof(uint32_t);
     case CARD_GROUP: return JURENGATE_GROUP_ANSWERS * sizeof(uint32_t);
     default: return is_run() ? asked.list_len * sizeof(uint32_t) : asked.list_len;
     }

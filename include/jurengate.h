@@ -8,16 +8,26 @@
  * CALLS. Nothing has to be checked before a call: it takes bytes of any length and content, and any numbers as a state, and answers
  * JURENGATE_ACCEPTED or the first refusal that holds. They are tried in this order:
  *
- *   read_site     1, 3, 4, 5, 6, 7
+ *   read_site     1, 3, 4, 5, 6, 7, 13; read_places the same
  *   read_foods    1, 3, 4, 5, 6, 10, 11
  *   read_book     1, then 3, 4, 5, 6, 8 of block 0, of block 1, .. of block 16
  *   write_block   1
- *   birth         1 of either file, the site file's 3 to 7, the book's 3 to 6 and 8, 22
- *   month         1 of either file, the site file's 3 to 7, the book's 3 to 6 and 8, 20, 21, 9, 22
- *   run           1 of either file, 2, the site file's 3 to 7, the book's 3 to 6 and 8, birth's 22, then 9 and 22 month by month
+ *   birth         1 of either file, the site file's 3 to 7 and 13, the book's 3 to 6 and 8, 22
+ *   month         1 of either file, the site file's 3 to 7 and 13, the book's 3 to 6 and 8, 20, 21, 9, 22
+ *   run           1 of either file, 2, the site file's 3 to 7 and 13, the book's 3 to 6 and 8, birth's 22, then 9 and 22 month by
+ *                 month
  *
  * birth_foods, month_foods and run_foods try 1 of site file or book first, and the foods block's 1, 3 to 6, 10 and 11 between the
- * site file's 7 and the book's 3; all else is in the order of birth, month and run.
+ * site file's 13 and the book's 3; all else is in the order of birth, month and run.
+ *
+ *   site_to_edition_2   1 of site file or target, 3, 4, 5, 6, 7
+ *   site_to_edition_1   1 of site file or target, 3, 4, 5, 6, 7, 13, 14
+ *
+ * EDITIONS. A site file is of edition 1 or 2, and every call but the two converters takes either. Edition 2 has five places away
+ * from home as well: work, school, daycare, second home and other, each with its share of the dust that the child eats and its own
+ * dust figure; the house has what is left of 100. The house's figure is that of edition 1, by the dust mode; the places count in
+ * both modes. A file of edition 1 has five places without share and dust: what birth, month and run answer for it, they answer for
+ * the same file converted to edition 2. Foods block and book have edition 1.
  *
  * MONTH BY MONTH. Nothing is kept between calls: the state is all that goes from one month to the next. Each month call may have
  * another site file and another book (a yard cleaned, a family moved), and a foods block of its own or none; the run has the same
@@ -47,15 +57,17 @@
 /* The version of this interface. MAJOR rises if a firmware has to change: a declaration, the meaning of a name, or an answer of
  * a call; while it is 0, MINOR does. MINOR rises if something is added, PATCH if neither is so. Files have an edition. */
 #define JURENGATE_VERSION_MAJOR 0
-#define JURENGATE_VERSION_MINOR 2
+#define JURENGATE_VERSION_MINOR 3
 #define JURENGATE_VERSION_PATCH 0
 
 /* The files. */
 #define JURENGATE_BLOCK_BYTES 512    /* a block */
 #define JURENGATE_BODY_BYTES 508     /* a block without its check: what the writer takes */
-#define JURENGATE_EDITION 1          /* the edition of every block */
+#define JURENGATE_EDITION 1          /* the edition of every block but a site file that has places */
+#define JURENGATE_PLACES_EDITION 2   /* the edition of a site file that has places */
 #define JURENGATE_SITE_BYTES 512     /* a site file: one block */
-#define JURENGATE_SITE_FIELDS 94     /* its fields */
+#define JURENGATE_SITE_FIELDS 94     /* its fields, in both editions */
+#define JURENGATE_SITE_PLACES 10     /* the figures of its five places: a share and a dust figure each */
 #define JURENGATE_AGES 7             /* ages 0 to 6, for which a site file has ten fields each */
 #define JURENGATE_FOODS_BYTES 512    /* a foods block */
 #define JURENGATE_FOODS 15           /* its foods, for each of which it has grams at each age, and a lead figure */
@@ -82,29 +94,34 @@
 #define JURENGATE_STACK_READ_SITE 2384
 #define JURENGATE_STACK_READ_BOOK 360
 #define JURENGATE_STACK_WRITE_BLOCK 272
-#define JURENGATE_STACK_BIRTH 14240
-#define JURENGATE_STACK_MONTH 13500
-#define JURENGATE_STACK_RUN 14640
+#define JURENGATE_STACK_BIRTH 14820
+#define JURENGATE_STACK_MONTH 15160
+#define JURENGATE_STACK_RUN 15120
 #define JURENGATE_STACK_READ_FOODS 384
-#define JURENGATE_STACK_BIRTH_FOODS 14260
-#define JURENGATE_STACK_MONTH_FOODS 13500
-#define JURENGATE_STACK_RUN_FOODS 14660
+#define JURENGATE_STACK_BIRTH_FOODS 14840
+#define JURENGATE_STACK_MONTH_FOODS 15180
+#define JURENGATE_STACK_RUN_FOODS 15160
+#define JURENGATE_STACK_READ_PLACES 1650
+#define JURENGATE_STACK_SITE_TO_EDITION_2 2200
+#define JURENGATE_STACK_SITE_TO_EDITION_1 2080
 
 /* What a call answers. JURENGATE_NO_STATE: the month is over 84, the compartments are together over JURENGATE_BURDEN_MOST, or these
  * and the ledgers together over JURENGATE_BURDEN_MOST + month * JURENGATE_MONTH_UPTAKE_MOST. */
 enum jurengate_refusal {
     JURENGATE_ACCEPTED = 0,
-    JURENGATE_WRONG_LENGTH = 1,         /* site file, foods block, book, writer's body or its target */
+    JURENGATE_WRONG_LENGTH = 1,         /* site file, foods block, book, writer's body, or a target */
     JURENGATE_WRONG_LIST_LENGTH = 2,    /* the run's list is not 84 long */
     JURENGATE_CHECK_WRONG = 3,          /* of a block */
-    JURENGATE_EDITION_WRONG = 4,        /* of a block, not 1 */
+    JURENGATE_EDITION_WRONG = 4,        /* of a block, not 1; of a site file, neither 1 nor 2, or not the one to be converted */
     JURENGATE_NUMBER_WRONG = 5,         /* of a block, not the one due there */
-    JURENGATE_RESERVED_NOT_ZERO = 6,    /* a byte behind a block's fields */
-    JURENGATE_FIELD_OUTSIDE_LIMITS = 7, /* a site field, used or not, or the sum of the two water shares */
+    JURENGATE_RESERVED_NOT_ZERO = 6,    /* a byte behind a block's fields, and behind the places of edition 2 */
+    JURENGATE_FIELD_OUTSIDE_LIMITS = 7, /* a site field, used or not, the sum of the two water shares, or a figure of a place */
     JURENGATE_ROW_OUTSIDE_LIMITS = 8,   /* a row of the book */
     JURENGATE_INTAKE_TOO_LARGE = 9,     /* air, water, soil, dust or diet by foods over JURENGATE_INTAKE_MOST at the month's age */
     JURENGATE_SHARES_TOO_LARGE = 10,    /* of a foods block: fish and game over 100 together, or another share over 100 */
     JURENGATE_FOOD_OUTSIDE_LIMITS = 11, /* grams or a lead figure of a foods block */
+    JURENGATE_PLACES_OVER_100 = 13,     /* the shares of a site file's five places together */
+    JURENGATE_SHARE_ABOVE_0 = 14,       /* of a place, in a file to be converted to edition 1 */
     JURENGATE_NO_STATE = 20,            /* what was handed in is none */
     JURENGATE_LAST_MONTH_DONE = 21,     /* the state's month is 84 */
     JURENGATE_BURDEN_TOO_LARGE = 22     /* compartments plus uptake over JURENGATE_BURDEN_MOST, at birth or at some step */
@@ -119,7 +136,7 @@ enum jurengate_site_place {
     JURENGATE_SITE_DIET = 28,               /* lead eaten in food, pg a day; at most 1,000,000,000 */
     JURENGATE_SITE_WATER_AMOUNT = 35,       /* water drunk, mL a day; at most 10,000 */
     JURENGATE_SITE_SOIL = 42,               /* lead in soil, thousandths of ug/g; at most 50,000,000 */
-    JURENGATE_SITE_DUST = 49,               /* lead in dust if the dust mode is 0, thousandths of ug/g; at most 50,000,000 */
+    JURENGATE_SITE_DUST = 49,               /* lead in house dust if the dust mode is 0, thousandths of ug/g; at most 50,000,000 */
     JURENGATE_SITE_EATEN = 56,              /* soil and dust eaten, mg a day; at most 1,000 */
     JURENGATE_SITE_ALTERNATE = 63,          /* lead eaten otherwise, pg a day; at most 1,000,000,000 */
     JURENGATE_SITE_INDOOR = 70,             /* indoor air lead, % of outdoor; at most 100 */
@@ -146,6 +163,21 @@ enum jurengate_site_place {
     JURENGATE_SITE_PASSIVE_ALTERNATE = 91,  /* %; at most 100 */
     JURENGATE_SITE_SATURATION = 92,         /* of the gut at 24 months, pg a day; at least 1,000,000, at most 500,000,000 */
     JURENGATE_SITE_MOTHER = 93              /* mother's blood lead, thousandths of ug/dL; at most 100,000 */
+};
+
+/* Where the figures of a site file's five places stand in what read_places fills; all are 0 in edition 1. The five shares are at
+ * most 100 together. */
+enum jurengate_place_figure {
+    JURENGATE_PLACE_WORK_SHARE = 0,        /* of the dust eaten, hundredths; at most 100 */
+    JURENGATE_PLACE_WORK_DUST = 1,         /* lead in its dust, thousandths of ug/g; at most 50,000,000 */
+    JURENGATE_PLACE_SCHOOL_SHARE = 2,      /* of the dust eaten, hundredths; at most 100 */
+    JURENGATE_PLACE_SCHOOL_DUST = 3,       /* lead in its dust, thousandths of ug/g; at most 50,000,000 */
+    JURENGATE_PLACE_DAYCARE_SHARE = 4,     /* of the dust eaten, hundredths; at most 100 */
+    JURENGATE_PLACE_DAYCARE_DUST = 5,      /* lead in its dust, thousandths of ug/g; at most 50,000,000 */
+    JURENGATE_PLACE_SECOND_HOME_SHARE = 6, /* of the dust eaten, hundredths; at most 100 */
+    JURENGATE_PLACE_SECOND_HOME_DUST = 7,  /* lead in its dust, thousandths of ug/g; at most 50,000,000 */
+    JURENGATE_PLACE_OTHER_SHARE = 8,       /* of the dust eaten, hundredths; at most 100 */
+    JURENGATE_PLACE_OTHER_DUST = 9         /* lead in its dust, thousandths of ug/g; at most 50,000,000 */
 };
 
 /* Places of a foods block's figures; the fifteen foods are in the order of equations E-4d to E-4r. Their grams are those of age 0;
@@ -238,8 +270,12 @@ enum jurengate_state_place {
 extern "C" {
 #endif
 
-/* Reads a site file into its fields; zeros if it is refused (1, 3 to 7). */
+/* Reads a site file of either edition into its fields; zeros if it is refused (1, 3 to 7, 13). */
 uint32_t jurengate_read_site(const uint8_t *site, size_t site_len, uint32_t fields[JURENGATE_SITE_FIELDS]);
+
+/* Reads a site file of either edition into the figures of its places, share and dust of each; zeros in edition 1, and if it is
+ * refused (1, 3 to 7, 13). */
+uint32_t jurengate_read_places(const uint8_t *site, size_t site_len, uint32_t places[JURENGATE_SITE_PLACES]);
 
 /* Reads a foods block into its figures; zeros if it is refused (1, 3 to 6, 10, 11). */
 uint32_t jurengate_read_foods(const uint8_t *foods, size_t foods_len, uint32_t figures[JURENGATE_FOODS_FIGURES]);
@@ -251,25 +287,33 @@ uint32_t jurengate_read_book(const uint8_t *book, size_t book_len, uint32_t tabl
  * if one is wrong (1) the target keeps its content. */
 uint32_t jurengate_write_block(const uint8_t *body, size_t body_len, uint8_t *target, size_t target_len);
 
-/* The child at birth, month 0; all zeros if it is refused (1, 3 to 8, 22). */
+/* Converts a site file of edition 1 into one of edition 2, whose places have no share and no dust, in a target of
+ * JURENGATE_SITE_BYTES. The fields stay. If it is refused (1, 3 to 7) the target keeps its content. */
+uint32_t jurengate_site_to_edition_2(const uint8_t *site, size_t site_len, uint8_t *target, size_t target_len);
+
+/* Converts a site file of edition 2 into one of edition 1, in a target of JURENGATE_SITE_BYTES. The fields stay; dust figures of
+ * places are dropped, and a share above 0 is refused (14). If it is refused (1, 3 to 7, 13, 14) the target keeps its content. */
+uint32_t jurengate_site_to_edition_1(const uint8_t *site, size_t site_len, uint8_t *target, size_t target_len);
+
+/* The child at birth, month 0; all zeros if it is refused (1, 3 to 8, 13, 22). */
 uint32_t jurengate_birth(const uint8_t *site, size_t site_len, const uint8_t *book, size_t book_len,
                          uint64_t state[JURENGATE_STATE_WORDS]);
 
-/* The month after state's: the state at its end, and its blood figure. If it is refused (1, 3 to 9, 20 to 22) the state keeps
- * its content and the blood figure is 0. */
+/* The month after state's: the state at its end, and its blood figure. If it is refused (1, 3 to 9, 13, 20 to 22) the state
+ * keeps its content and the blood figure is 0. */
 uint32_t jurengate_month(const uint8_t *site, size_t site_len, const uint8_t *book, size_t book_len,
                          uint64_t state[JURENGATE_STATE_WORDS], uint32_t *blood);
 
 /* Birth and 84 months; blood_len counts figures. As many blood figures are written as months were done; the rest of the list keeps
- * its content. The state is the last month end: month 0 after birth, all zeros without one. If it is refused (1 to 9, 22) months
- * says how many were done before; it is 84 if it is accepted. What state and months held before does not matter. */
+ * its content. The state is the last month end: month 0 after birth, all zeros without one. If it is refused (1 to 9, 13, 22)
+ * months says how many were done before; it is 84 if it is accepted. What state and months held before does not matter. */
 uint32_t jurengate_run(const uint8_t *site, size_t site_len, const uint8_t *book, size_t book_len,
                        uint32_t *blood, size_t blood_len, uint64_t state[JURENGATE_STATE_WORDS], uint32_t *months);
 
 /* The same three with a foods block: they answer and fill what those above do, with the diet of the foods in place of the site
  * file's diet figures, which are checked all the same. Birth takes nothing from the foods but their refusals. Birth is refused with
- * 1, 3 to 8, 10, 11, 22; a month with 1, 3 to 11, 20 to 22; the run with 1 to 11, 22. An empty foods block has a wrong length (1):
- * without one, the three calls above are due. */
+ * 1, 3 to 8, 10, 11, 13, 22; a month with 1, 3 to 11, 13, 20 to 22; the run with 1 to 11, 13, 22. An empty foods block has a
+ * wrong length (1): without one, the three calls above are due. */
 uint32_t jurengate_birth_foods(const uint8_t *site, size_t site_len, const uint8_t *foods, size_t foods_len,
                                const uint8_t *book, size_t book_len, uint64_t state[JURENGATE_STATE_WORDS]);
 

@@ -20,8 +20,8 @@
  * CALLS. Nothing has to be checked before a call: it takes bytes of any length and content. A row is accepted or has the first
  * refusal that holds. They are tried in this order:
  *
- *   the files     1 of site file or book, the site file's 3 to 7, with foods the block's 1, 3 to 6, 10 and 11, the book's 3 to 6
- *                 and 8
+ *   the files     1 of site file or book, the site file's 3 to 7 and 13, with foods the block's 1, 3 to 6, 10 and 11, the book's
+ *                 3 to 6 and 8
  *   the text      12: not twelve fields, a field over 8 bytes, or no figure where one is due
  *   skipped       AGE missing or outside 1 to 84, or SOIL and DUST both missing: accepted, without a blood figure
  *   the figures   7: one of the row's own over its limit
@@ -31,6 +31,7 @@
  * water and the absorptions of soil and dust are the row's. Dust mode and water mode are 0, whatever the site file says and even
  * if the row has no figure there. If one of SOIL and DUST is missing, it is the other's figure. If WATER, AIR, OTHER, ABSSOIL or
  * ABSDUST is missing, the site file's own stays, age by age. FAM, BLOCK and PBB must be figures or asterisks, and change nothing.
+ * The places of a site file of edition 2 stay with their shares and figures: DUST is the house's.
  *
  * A GROUP is the first JURENGATE_GROUP_ROWS rows of a text, or all of them if they are fewer; rows that are skipped or refused
  * count among them. Each row has the answer that card_row gives for it alone, in every case: a refused row stops no other, and a
@@ -47,7 +48,7 @@
  * were decoded, to check them and to run by them. Only decoding a block raises it, each time by one. It is exactly
  * JURENGATE_BOOK_BLOCKS if the book is accepted, whatever the rows say and if there are none; n + 1 if block n is refused, the
  * first that does not pass; and 0 on a refusal before the book's blocks: a wrong length of site file or book, the site file's 3 to
- * 7, the foods block's own. Each group of a longer text reads the book anew, so a text costs the sum of its groups' counts.
+ * 7 and 13, the foods block's own. Each group of a longer text reads the book anew, so a text costs the sum of its groups' counts.
  *
  * MEMORY. No pointer may be null, not even that of an empty file, row or text, or of foods that are not there: with length 0 it
  * may be any other address that its type allows, and nothing is read there. Bytes may lie anywhere; *blood, answers, *decodes and
@@ -74,7 +75,7 @@
 
 /* The version of this interface; its parts rise as those of jurengate.h do. */
 #define JURENGATE_CARDS_VERSION_MAJOR 0
-#define JURENGATE_CARDS_VERSION_MINOR 2
+#define JURENGATE_CARDS_VERSION_MINOR 3
 #define JURENGATE_CARDS_VERSION_PATCH 0
 
 /* The text. */
@@ -87,7 +88,7 @@
 #define JURENGATE_GROUP_ANSWERS 128 /* the numbers that it fills at most: two a row */
 
 /* Bytes of stack that suffice for each call, memcpy and memset included. */
-#define JURENGATE_STACK_CARD_ROW 14180
+#define JURENGATE_STACK_CARD_ROW 15250
 #define JURENGATE_STACK_CARD_GROUP 31020
 
 /* What a row answers beside the refusals of jurengate.h. JURENGATE_FIELD_OUTSIDE_LIMITS is the site file's, or a figure of the
@@ -100,7 +101,7 @@ enum jurengate_card_refusal {
 enum jurengate_group_kind {
     JURENGATE_GROUP_BLOOD = 0,   /* the blood at AGE */
     JURENGATE_GROUP_SKIPPED = 1, /* 0: the row is skipped */
-    JURENGATE_GROUP_REFUSED = 2  /* the number of the row's refusal: 1, 3 to 12 or 22 */
+    JURENGATE_GROUP_REFUSED = 2  /* the number of the row's refusal: 1, 3 to 13 or 22 */
 };
 
 /* Places of a row's fields. */
@@ -125,7 +126,7 @@ extern "C" {
 
 /* One row of a card over a site file, a rate book and, if has_foods, a foods block, whose diet takes the place of the site file's;
  * without has_foods its bytes are not looked at, and with it an empty one has a wrong length (1). An accepted row gives its blood
- * at AGE and skipped false; a skipped one answers JURENGATE_ACCEPTED with blood 0 and skipped true; a refused one (1, 3 to 12, 22)
+ * at AGE and skipped false; a skipped one answers JURENGATE_ACCEPTED with blood 0 and skipped true; a refused one (1, 3 to 13, 22)
  * leaves blood 0 and skipped false. What blood held before does not matter; skipped has to hold false or true. */
 uint32_t jurengate_card_row(const uint8_t *site, size_t site_len, bool has_foods, const uint8_t *foods, size_t foods_len,
                             const uint8_t *book, size_t book_len, const uint8_t *row, size_t row_len,

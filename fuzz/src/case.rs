@@ -40,15 +40,53 @@ enum Call {
     RunFoods,
     CardRow,
     CardGroup,
+    ReadPlaces,
+    SiteToEdition2,
+    SiteToEdition1,
+}
+
+impl Call {
+    /// Whether it fills a target of a block's length.
+    fn has_target(self) -> bool {
+        matches!(self, Call::WriteBlock | Call::SiteToEdition2 | Call::SiteToEdition1)
+    }
 }
 
 /// A run takes as long as 84 months, so it is drawn seldom.
 const CALLS: [Call; 32] = {
     use Call::*;
     [
-        Month, ReadSite, Birth, Month, WriteBlock, ReadBook, Birth, ReadSite, Month, Month, Birth, ReadBook,
-        Month, Run, CardRow, CardGroup, MonthFoods, ReadFoods, BirthFoods, MonthFoods, MonthFoods, ReadFoods,
-        BirthFoods, MonthFoods, CardRow, CardGroup, ReadFoods, MonthFoods, BirthFoods, RunFoods, CardRow,
+        Month,
+        ReadSite,
+        Birth,
+        SiteToEdition1,
+        WriteBlock,
+        ReadBook,
+        SiteToEdition2,
+        ReadPlaces,
+        Month,
+        Month,
+        Birth,
+        SiteToEdition1,
+        Month,
+        Run,
+        CardRow,
+        CardGroup,
+        MonthFoods,
+        ReadFoods,
+        BirthFoods,
+        MonthFoods,
+        MonthFoods,
+        ReadFoods,
+        BirthFoods,
+        MonthFoods,
+        CardRow,
+        CardGroup,
+        ReadFoods,
+        MonthFoods,
+        BirthFoods,
+        RunFoods,
+        CardRow,
         CardGroup,
     ]
 };
@@ -63,8 +101,13 @@ macro_rules! sample {
 }
 
 /// The sample cards.
-const SAMPLES: [(&[u8], &[u8]); 4] =
-    [sample!("default"), sample!("heavy"), sample!("refused-intake"), sample!("refused-burden")];
+const SAMPLES: [(&[u8], &[u8]); 5] = [
+    sample!("default"),
+    sample!("heavy"),
+    sample!("refused-intake"),
+    sample!("refused-burden"),
+    sample!("daycare"),
+];
 
 /// The sample foods block, which every sample card takes.
 const SAMPLE_FOODS: &[u8] = include_bytes!("../../samples/foods/foods.lkb");
@@ -85,7 +128,7 @@ pub struct Case {
     pub has_foods: bool,
     /// The state handed to the month call.
     pub state: State,
-    /// How far the length of the run's list or the writer's target is from the one due.
+    /// How far the length of the run's list or of a target is from the one due.
     pub list_off: i8,
 }
 
@@ -223,7 +266,7 @@ fn raw(tape: &mut Tape, is_group: bool) -> Case {
 fn lend(case: Case, call: Call, lent: &mut LentCase) {
     let site =
         if call == Call::WriteBlock { &case.site[..case.site.len().saturating_sub(4)] } else { &case.site };
-    let list_due = if call == Call::WriteBlock { BLOCK_BYTES } else { MONTHS };
+    let list_due = if call.has_target() { BLOCK_BYTES } else { MONTHS };
     lent.site_len = copy(site, &mut lent.site);
     lent.foods_len = copy(&case.foods, &mut lent.foods);
     lent.book_len = copy(&case.book, &mut lent.book);

@@ -8,7 +8,9 @@ use jurengate_model::card::{self, CARD_FIELDS};
 use jurengate_model::cards;
 use jurengate_model::foods::{local, Foods, FOODS, GRAMS_MOST, LEAD_MOST, LOCAL_FOODS};
 use jurengate_model::random::{self, INTAKES};
-use jurengate_model::site::{self, AGES, SITE_FIELDS};
+use jurengate_model::site::{
+    self, place, AGES, EDITION_2, PLACES, PLACE_DUST_MOST, PLACE_FIGURES, PLACE_SHARES_MOST, SITE_FIELDS,
+};
 use jurengate_model::state::State;
 
 /// 32-bit words between a block's header and its check, reserved ones too.
@@ -21,7 +23,7 @@ const UNSEALED_FROM: u8 = 0xE0;
 pub fn edit(tape: &mut Tape, case: &mut Case) {
     let what = tape.byte();
     let seal = what < UNSEALED_FROM;
-    match what % 24 {
+    match what % 28 {
         0 => edit_block(tape, case, seal, put_word),
         1 => edit_block(tape, case, seal, put_header),
         2 => edit_block(tape, case, seal, turn_bits),
@@ -41,6 +43,10 @@ pub fn edit(tape: &mut Tape, case: &mut Case) {
         20 => edit_row(tape, case, put_field_text),
         21 => put_byte(tape, case),
         22 => edit_row(tape, case, put_field_figure),
+        24 => edit_site_block(tape, case, seal, put_edition),
+        25 => edit_site_block(tape, case, seal, put_place),
+        26 => edit_site_block(tape, case, seal, put_place_shares),
+        27 => edit_site_block(tape, case, seal, break_place),
         _ => case.has_foods = tape.index(2) == 1,
     }
 }
@@ -65,6 +71,15 @@ fn edit_site(tape: &mut Tape, case: &mut Case, seal: bool, change: fn(&mut Tape,
     let mut fields = std::array::from_fn(|index| block::field(block, index));
     change(tape, &mut fields);
     fields.iter().enumerate().for_each(|(index, field)| cards::put_field(block, index, *field));
+    if seal {
+        cards::seal(block);
+    }
+}
+
+/// Edits the bytes of the site file, if it has those of a block.
+fn edit_site_block(tape: &mut Tape, case: &mut Case, seal: bool, change: fn(&mut Tape, &mut [u8])) {
+    let Some(block) = case.site.get_mut(..BLOCK_BYTES) else { return };
+    change(tape, block);
     if seal {
         cards::seal(block);
     }
@@ -149,6 +164,56 @@ fn break_intake(tape: &mut Tape, fields: &mut [u32; SITE_FIELDS]) {
     if tape.index(2) == 1 {
         step_back(&before, fields);
     }
+}
+
+/// An edition that there is, or one beside it.
+fn put_edition(tape: &mut Tape, block: &mut [u8]) {
+    set_edition(block, tape.index(4) as u16);
+}
+
+fn set_edition(block: &mut [u8], edition: u16) {
+    block[EDITION_AT..EDITION_AT + 2].copy_from_slice(&edition.to_le_bytes());
+}
+
+/// Where the share of a place stands among the fields; its dust is the next.
+fn share_at(at: usize) -> usize {
+    SITE_FIELDS + 2 * at
+}
+
+/// A figure of a place near its limit or of any size; the edition is kept or becomes 2.
+fn put_place(tape: &mut Tape, block: &mut [u8]) {
+    let (figure, near) = (tape.index(PLACE_FIGURES), i32::from(tape.byte() as i8));
+    let most = if figure % 2 == 0 { PLACE_SHARES_MOST } else { PLACE_DUST_MOST };
+    let value = match tape.index(3) {
+        0 => tape.number() as u32,
+        1 => most.wrapping_add_signed(near),
+        _ => near as u32 & 0x7F,
+    };
+    cards::put_field(block, SITE_FIELDS + figure, value);
+    if tape.index(2) == 0 {
+        set_edition(block, EDITION_2.number);
+    }
+}
+
+/// The share of a place so that the five are as much as asked for together, in edition 2.
+fn put_place_shares(tape: &mut Tape, block: &mut [u8]) {
+    let (at, sum) = (tape.index(PLACES), u32::from(tape.byte()));
+    let shares = (0..PLACES).map(|at| block::field(block, share_at(at)));
+    let others = shares.enumerate().filter(|(other, _)| *other != at);
+    let others = others.fold(0u32, |sum, (_, share)| sum.wrapping_add(share));
+    cards::put_field(block, share_at(at), sum.wrapping_sub(others));
+    set_edition(block, EDITION_2.number);
+}
+
+/// The dust of an age past 10^9 by that of a place with the whole share, or just within it, in edition 2.
+fn break_place(tape: &mut Tape, block: &mut [u8]) {
+    let (at, age, less) = (tape.index(PLACES), tape.index(AGES), tape.index(2) as u32);
+    cards::put_field(block, place::WEIGHT_SOIL, 0);
+    cards::put_field(block, place::EATEN + age, 247);
+    (0..PLACES).for_each(|other| cards::put_field(block, share_at(other), 0));
+    cards::put_field(block, share_at(at), PLACE_SHARES_MOST);
+    cards::put_field(block, share_at(at) + 1, 4_048_583 - less);
+    set_edition(block, EDITION_2.number);
 }
 
 /// An amount at one age or at all, or a lead, near its limit.

@@ -8,9 +8,9 @@ use jurengate_model::book::{Table, BOOK_ROWS, ROW_FIELDS};
 use jurengate_model::foods::FOODS_FIGURES;
 use jurengate_model::group::GROUP_ANSWERS;
 use jurengate_model::refusal::number_of;
-use jurengate_model::site::SITE_FIELDS;
+use jurengate_model::site::{PLACE_FIGURES, SITE_FIELDS};
 use jurengate_model::state::State;
-use jurengate_model::{block, book, card, engine, foods, group, site};
+use jurengate_model::{block, book, card, convert, engine, foods, group, site};
 use std::slice::{from_raw_parts, from_raw_parts_mut};
 
 /// Eleven numbers of a state.
@@ -31,6 +31,42 @@ pub unsafe extern "C" fn model_read_site(
     let read = site::read_site(unsafe { from_raw_parts(site, site_len) });
     unsafe { *fields = read.unwrap_or([0; SITE_FIELDS]) };
     number_of(&read)
+}
+
+/// The model's reader of a site file's places.
+#[no_mangle]
+pub unsafe extern "C" fn model_read_places(
+    site: *const u8,
+    site_len: usize,
+    places: *mut [u32; PLACE_FIGURES],
+) -> u32 {
+    let read = site::read_places(unsafe { from_raw_parts(site, site_len) });
+    unsafe { *places = read.unwrap_or_default().figures() };
+    number_of(&read)
+}
+
+/// The model's converter to edition 2.
+#[no_mangle]
+pub unsafe extern "C" fn model_site_to_edition_2(
+    site: *const u8,
+    site_len: usize,
+    target: *mut u8,
+    target_len: usize,
+) -> u32 {
+    let (site, target) = unsafe { (from_raw_parts(site, site_len), from_raw_parts_mut(target, target_len)) };
+    number_of(&convert::to_edition_2(site, target))
+}
+
+/// The model's converter to edition 1.
+#[no_mangle]
+pub unsafe extern "C" fn model_site_to_edition_1(
+    site: *const u8,
+    site_len: usize,
+    target: *mut u8,
+    target_len: usize,
+) -> u32 {
+    let (site, target) = unsafe { (from_raw_parts(site, site_len), from_raw_parts_mut(target, target_len)) };
+    number_of(&convert::to_edition_1(site, target))
 }
 
 /// The model's book reader.

@@ -14,8 +14,17 @@ pub const EDITION_AT: usize = 2;
 pub const FIELDS_AT: usize = 4;
 /// Bytes in a field.
 pub const FIELD_BYTES: usize = 4;
-/// The only edition there is.
+/// The edition of foods blocks and of a book's blocks, and the first of site files.
 pub const EDITION: u16 = 1;
+
+/// An edition that a reader takes.
+#[derive(Clone, Copy, Debug, PartialEq, Eq)]
+pub struct Edition {
+    /// Its number.
+    pub number: u16,
+    /// Where the block's reserved bytes begin.
+    pub reserved_at: usize,
+}
 
 /// The little-endian 16-bit word at a byte position.
 pub fn word16(bytes: &[u8], at: usize) -> u16 {
@@ -43,21 +52,20 @@ pub fn field(block: &[u8], index: usize) -> u32 {
     word32(block, FIELDS_AT + FIELD_BYTES * index)
 }
 
-/// Refusals 3 to 6 in their order, for a block of 512 bytes whose reserved bytes begin at `reserved_at`.
-pub fn inspect(block: &[u8], number_due: u16, reserved_at: usize) -> Result<(), Refusal> {
+/// Refusals 3 to 6 in their order, for a block of 512 bytes that may have any of these editions; answers which it has.
+pub fn inspect(block: &[u8], number_due: u16, editions: &[Edition]) -> Result<Edition, Refusal> {
     if word32(block, BODY_BYTES) != check_of(block) {
         return Err(Refusal::Check);
     }
-    if word16(block, EDITION_AT) != EDITION {
-        return Err(Refusal::Edition);
-    }
+    let has = word16(block, EDITION_AT);
+    let edition = *editions.iter().find(|edition| edition.number == has).ok_or(Refusal::Edition)?;
     if word16(block, NUMBER_AT) != number_due {
         return Err(Refusal::Number);
     }
-    if block[reserved_at..BODY_BYTES].iter().any(|&byte| byte != 0) {
+    if block[edition.reserved_at..BODY_BYTES].iter().any(|&byte| byte != 0) {
         return Err(Refusal::Reserved);
     }
-    Ok(())
+    Ok(edition)
 }
 
 /// The block writer: checks lengths alone, and fills the target only on success.

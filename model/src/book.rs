@@ -1,6 +1,6 @@
 //! The rate book: 17 blocks of five month rows, months 0 to 84.
 
-use crate::block::{self, BLOCK_BYTES, FIELDS_AT, FIELD_BYTES};
+use crate::block::{self, Edition, BLOCK_BYTES, EDITION, FIELDS_AT, FIELD_BYTES};
 use crate::refusal::Refusal;
 use crate::state::TISSUES;
 
@@ -157,7 +157,7 @@ pub fn row_fields(block: &[u8], row: usize) -> RowFields {
 
 /// Refusals 3 to 6 and 8 of block `number`, then its five rows.
 fn read_block(block: &[u8], number: usize) -> Result<Vec<Row>, Refusal> {
-    block::inspect(block, number as u16, RESERVED_AT)?;
+    block::inspect(block, number as u16, &[Edition { number: EDITION, reserved_at: RESERVED_AT }])?;
     let rows: Vec<Row> = (0..BLOCK_ROWS).map(|row| Row::of_fields(&row_fields(block, row))).collect();
     if rows.iter().all(Row::within_limits) {
         Ok(rows)

@@ -7,7 +7,7 @@ use crate::engine::{newborn, walk_month};
 use crate::foods::{read_foods, Foods};
 use crate::printout::decimals;
 use crate::refusal::{Refusal, ACCEPTED};
-use crate::site::{self, place, read_site, Site, AGES, SITE_FIELDS};
+use crate::site::{self, place, read_site_file, Site, SiteFile, AGES, SITE_FIELDS};
 use crate::state::MONTHS;
 
 /// Lines before the first row.
@@ -180,7 +180,8 @@ pub struct Asked {
     pub fields: [u32; SITE_FIELDS],
 }
 
-/// A row's figures over a site's fields: nothing if the row is skipped, or refusal 7 if a figure is over its limit.
+/// A row's figures over a site's fields: nothing if the row is skipped, or refusal 7 if a figure is over its limit. DUST
+/// is the house's: a row has nothing for the places.
 pub fn put_over(row: &Read, site_fields: &[u32; SITE_FIELDS]) -> Result<Option<Asked>, Refusal> {
     let (Some(month), Some(copied)) = (month(row), row[field::SOIL].or(row[field::DUST])) else {
         return Ok(None);
@@ -262,14 +263,14 @@ impl From<RowAnswer> for RowCall {
 /// The files beside a card, read.
 #[derive(Clone, Debug)]
 pub struct Files {
-    fields: [u32; SITE_FIELDS],
+    site: SiteFile,
     foods: Option<Foods>,
     /// The rate book.
     pub book: Book,
 }
 
 impl Files {
-    /// Refusals 1, 3 to 8, 10 and 11, in the order of a birth call.
+    /// Refusals 1, 3 to 8, 10, 11 and 13, in the order of a birth call.
     pub fn read(site: &[u8], foods: Option<&[u8]>, book: &[u8]) -> Result<Files, Refusal> {
         Files::read_counted(site, foods, book, &mut 0)
     }
@@ -285,19 +286,19 @@ impl Files {
         if site.len() != BLOCK_BYTES || book.len() != BOOK_BYTES {
             return Err(Refusal::Length);
         }
-        let fields = read_site(site)?;
+        let site = read_site_file(site)?;
         let foods = foods.map(read_foods).transpose()?;
-        Ok(Files { fields, foods, book: read_book_counted(book, decodes)? })
+        Ok(Files { site, foods, book: read_book_counted(book, decodes)? })
     }
 
     /// What a row asks for over these files: nothing if it is skipped, or refusal 12 or 7.
     pub fn asked(&self, row: &[u8]) -> Result<Option<Asked>, Refusal> {
-        put_over(&read_row(row)?, &self.fields)
+        put_over(&read_row(row)?, &self.site.fields)
     }
 
-    /// The site that a row's child lives by, with the diet of the foods if they are there.
+    /// The site that a row's child lives by, with the places of the site file, and the diet of the foods if they are there.
     pub fn site(&self, asked: &Asked) -> Site {
-        let site = Site::of_fields(&asked.fields);
+        let site = Site::of_file(&SiteFile { fields: asked.fields, ..self.site });
         self.foods.as_ref().map_or(site, |foods| site.with_foods(foods))
     }
 

@@ -8,7 +8,7 @@ use crate::block::{
 };
 use crate::book::{RowFields, BLOCK_ROWS, BOOK_BYTES, BOOK_ROWS};
 use crate::foods::{Foods, FOODS_NUMBER};
-use crate::site::{SITE_FIELDS, SITE_NUMBER};
+use crate::site::{Places, EDITION_2, SITE_FIELDS, SITE_NUMBER};
 
 /// Makes the check of a 512-byte block anew.
 pub fn seal(block: &mut [u8]) {
@@ -18,9 +18,14 @@ pub fn seal(block: &mut [u8]) {
 
 /// A sealed block of edition 1 from its number and fields.
 pub fn block_of(number: u16, fields: &[u32]) -> Vec<u8> {
+    block_of_edition(EDITION, number, fields)
+}
+
+/// A sealed block of an edition from its number and fields.
+fn block_of_edition(edition: u16, number: u16, fields: &[u32]) -> Vec<u8> {
     let mut block = vec![0; BLOCK_BYTES];
     block[NUMBER_AT..NUMBER_AT + 2].copy_from_slice(&number.to_le_bytes());
-    block[EDITION_AT..EDITION_AT + 2].copy_from_slice(&EDITION.to_le_bytes());
+    block[EDITION_AT..EDITION_AT + 2].copy_from_slice(&edition.to_le_bytes());
     for (index, field) in fields.iter().enumerate() {
         put_field(&mut block, index, *field);
     }
@@ -34,9 +39,19 @@ pub fn put_field(block: &mut [u8], index: usize, value: u32) {
     block[at..at + FIELD_BYTES].copy_from_slice(&value.to_le_bytes());
 }
 
-/// A site file; limits are not checked here.
+/// A site file of edition 1; limits are not checked here.
 pub fn site_file(fields: &[u32; SITE_FIELDS]) -> Vec<u8> {
     block_of(SITE_NUMBER, fields)
+}
+
+/// A site file of edition 2; limits are not checked here.
+pub fn site_file_2(fields: &[u32; SITE_FIELDS], places: &Places) -> Vec<u8> {
+    block_of_edition(EDITION_2.number, SITE_NUMBER, &[&fields[..], &places.figures()].concat())
+}
+
+/// A site file of edition 2 if there are places, else of edition 1.
+pub fn site_file_with(fields: &[u32; SITE_FIELDS], places: Option<&Places>) -> Vec<u8> {
+    places.map_or_else(|| site_file(fields), |places| site_file_2(fields, places))
 }
 
 /// A foods block; limits are not checked here.

@@ -5,7 +5,7 @@ use crate::book::{read_book, Book, Row, BOOK_BYTES};
 use crate::foods::read_foods;
 use crate::kinetics::{self, birth_compartments, blood_figure, step_uptake, Stepped, DAY_STEPS, MONTH_DAYS};
 use crate::refusal::{Refusal, ACCEPTED};
-use crate::site::{read_site, Site};
+use crate::site::{read_site_file, Site};
 use crate::state::{sum, State, BURDEN_LIMIT, MONTHS};
 use crate::uptake::day_uptake;
 
@@ -40,7 +40,7 @@ pub struct RunAnswer {
     pub months: u32,
 }
 
-/// The files read, refusals 1, 3 to 8, 10 and 11; `list` stands where 2 is due.
+/// The files read, refusals 1, 3 to 8, 10, 11 and 13; `list` stands where 2 is due.
 fn read_all(
     site: &[u8],
     foods: Option<&[u8]>,
@@ -52,7 +52,7 @@ fn read_all(
         return Err(Refusal::Length);
     }
     list?;
-    let mut site = Site::of_fields(&read_site(site)?);
+    let mut site = Site::of_file(&read_site_file(site)?);
     if let Some(foods) = foods {
         site = site.with_foods(&read_foods(foods)?);
     }

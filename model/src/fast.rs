@@ -6,15 +6,19 @@
 //! since bi/Ei ≤ 1/2, d ≥ D + ai/2, so Mi × D + ai × p ≤ 10^19.
 
 mod card;
+mod convert;
 
 pub use card::{card_row, rows_one_by_one};
+pub use convert::{to_edition_1, to_edition_2};
 
 use crate::block::{BLOCK_BYTES, BODY_BYTES, EDITION, EDITION_AT, FIELDS_AT, FIELD_BYTES, NUMBER_AT};
 use crate::book::{self, column, RowFields, BLOCK_ROWS, BOOK_BYTES, BOOK_ROWS, ROW_FIELDS};
 use crate::engine::{BirthAnswer, MonthAnswer, RunAnswer};
 use crate::foods::{self, food, local, FOODS, FOODS_FIGURES, FOODS_NUMBER, LOCAL_FOODS};
 use crate::refusal::{Refusal, ACCEPTED};
-use crate::site::{self, place, AGES, SATURATION_LEAST, SHARES_MOST, SITE_FIELDS, SITE_NUMBER};
+use crate::site::{
+    self, place, AGES, PLACES, PLACE_FIGURES, SATURATION_LEAST, SHARES_MOST, SITE_FIELDS, SITE_NUMBER,
+};
 use crate::state::{self, compartment, State, COMPARTMENTS, LEDGERS, MONTHS, MONTH_LIMIT, TISSUES};
 use crate::uptake;
 
@@ -68,7 +72,8 @@ const fn site_most() -> [u32; SITE_FIELDS] {
     most
 }
 
-type Fields = [u32; SITE_FIELDS];
+/// Fields, then share and dust figure of each place; those of edition 1 are 0.
+type Fields = [u32; SITE_FIELDS + PLACE_FIGURES];
 type Figures = [u32; FOODS_FIGURES];
 /// Diet by age, pg/day.
 type Diets = [u64; AGES];
@@ -105,18 +110,33 @@ fn field(block: &[u8], index: usize) -> u32 {
     word32(block, FIELDS_AT + FIELD_BYTES * index)
 }
 
-/// Refusals 3 to 6.
-fn inspect(block: &[u8; BLOCK_BYTES], number: u16, reserved_at: usize) -> Result<(), Refusal> {
+fn edition(block: &[u8]) -> usize {
+    word16(block, EDITION_AT).into()
+}
+
+/// The check of a body, or of the block that has it: each word times its position.
+#[inline(always)]
+fn check_of(block: &[u8]) -> u32 {
     let mut check = 0u32;
     for (position, pair) in (1u32..).zip(block[..BODY_BYTES].chunks_exact(2)) {
         check += position * u32::from(u16::from_le_bytes([pair[0], pair[1]]));
     }
-    if check != word32(block, BODY_BYTES) {
+    check
+}
+
+/// Refusals 3 to 6 of a block that has edition 1 alone.
+fn inspect(block: &[u8; BLOCK_BYTES], number: u16, reserved_at: usize) -> Result<(), Refusal> {
+    inspect_editions(block, number, &[reserved_at])
+}
+
+/// Refusals 3 to 6, with where the reserved bytes begin in edition 1, in edition 2 and so on.
+fn inspect_editions(block: &[u8; BLOCK_BYTES], number: u16, reserved_at: &[usize]) -> Result<(), Refusal> {
+    if check_of(block) != word32(block, BODY_BYTES) {
         return Err(Refusal::Check);
     }
-    if word16(block, EDITION_AT) != EDITION {
+    let Some(&reserved_at) = reserved_at.get(edition(block).wrapping_sub(EDITION.into())) else {
         return Err(Refusal::Edition);
-    }
+    };
     if word16(block, NUMBER_AT) != number {
         return Err(Refusal::Number);
     }
@@ -127,16 +147,36 @@ fn inspect(block: &[u8; BLOCK_BYTES], number: u16, reserved_at: usize) -> Result
 }
 
 fn read_site(block: &[u8; BLOCK_BYTES]) -> Result<Fields, Refusal> {
-    inspect(block, SITE_NUMBER, site::RESERVED_AT)?;
+    inspect_editions(block, SITE_NUMBER, &[site::RESERVED_AT, site::RESERVED_2_AT])?;
+    // Where edition 1 has no places yet, its reserved bytes are zeros.
     let fields: Fields = std::array::from_fn(|index| field(block, index));
     let over = fields.iter().zip(&SITE_MOST).any(|(field, most)| field > most);
     if over
+        || (0..PLACES).any(|at| share(&fields, at) > 100 || dust(&fields, at) > 50_000_000)
         || fields[place::SATURATION] < SATURATION_LEAST
         || fields[place::FIRST_DRAW_SHARE] + fields[place::FOUNTAIN_SHARE] > SHARES_MOST
     {
         return Err(Refusal::SiteLimits);
     }
+    if house(&fields).is_none() {
+        return Err(Refusal::PlaceShares);
+    }
     Ok(fields)
+}
+
+/// The share of a place.
+fn share(fields: &Fields, at: usize) -> u32 {
+    fields[SITE_FIELDS + 2 * at]
+}
+
+/// The dust of a place.
+fn dust(fields: &Fields, at: usize) -> u32 {
+    fields[SITE_FIELDS + 2 * at + 1]
+}
+
+/// What places of at most 100 each leave to the house, if they leave 0 or more.
+fn house(fields: &Fields) -> Option<u32> {
+    100u32.checked_sub((0..PLACES).map(|at| share(fields, at)).sum())
 }
 
 /// The foods reader: refusals 1, 3 to 6, 10 and 11.
@@ -280,13 +320,18 @@ fn day_uptake(f: &Fields, diets: &Diets, rows: &Rows, month: usize) -> Result<u6
             + at(place::FOUNTAIN) * fountain;
         aged(place::WATER_AMOUNT) * mixed / 100
     };
-    let dust = if f[place::DUST_MODE] == 0 {
+    let house_dust = if f[place::DUST_MODE] == 0 {
         aged(place::DUST)
     } else {
         (10 * at(place::CONTRIBUTION) * aged(place::SOIL) + at(place::AIR_TO_DUST) * aged(place::AIR)) / 1000
     };
     let soil_eaten = aged(place::SOIL) * aged(place::EATEN) * weight_soil / 100;
-    let dust_eaten = dust * aged(place::EATEN) * (100 - weight_soil) / 100;
+    // At most 1.05×10^9 × 1,000 × 100 × 100.
+    let eaten_as_dust = aged(place::EATEN) * (100 - weight_soil);
+    let mut dust_eaten = house_dust * eaten_as_dust * u64::from(house(f).unwrap_or(0)) / 10_000;
+    for at in 0..PLACES {
+        dust_eaten += u64::from(dust(f, at)) * eaten_as_dust * u64::from(share(f, at)) / 10_000;
+    }
     if air.max(water).max(soil_eaten).max(dust_eaten).max(diet) > INTAKE_MOST {
         return Err(Refusal::Intake);
     }

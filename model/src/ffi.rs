@@ -8,7 +8,7 @@ use crate::card::RowCall;
 use crate::engine::{BirthAnswer, MonthAnswer, RunAnswer};
 use crate::foods::FOODS_FIGURES;
 use crate::group::{GroupCall, GROUP_ANSWERS};
-use crate::site::SITE_FIELDS;
+use crate::site::{Places, PLACE_FIGURES, SITE_FIELDS};
 use crate::state::State;
 
 /// What 32-bit places hold before a call.
@@ -79,6 +79,19 @@ extern "C" {
         state: *mut u64,
         months: *mut u32,
     ) -> u32;
+    fn jurengate_read_places(site: *const u8, site_len: usize, places: *mut u32) -> u32;
+    fn jurengate_site_to_edition_2(
+        site: *const u8,
+        site_len: usize,
+        target: *mut u8,
+        target_len: usize,
+    ) -> u32;
+    fn jurengate_site_to_edition_1(
+        site: *const u8,
+        site_len: usize,
+        target: *mut u8,
+        target_len: usize,
+    ) -> u32;
     // Of the second library, that of batch cards.
     fn jurengate_card_row(
         site: *const u8,
@@ -115,6 +128,26 @@ pub fn read_site(site: &[u8]) -> (u32, [u32; SITE_FIELDS]) {
     // SAFETY: the pointers span `site` and 94 writable fields.
     let number = unsafe { jurengate_read_site(site.as_ptr(), site.len(), fields.as_mut_ptr()) };
     (number, fields)
+}
+
+/// The engine's reader of a site file's places: its number and the places, zeros if refused.
+pub fn read_places(site: &[u8]) -> (u32, Places) {
+    let mut figures = [FILLER; PLACE_FIGURES];
+    // SAFETY: the pointers span `site` and ten writable figures.
+    let number = unsafe { jurengate_read_places(site.as_ptr(), site.len(), figures.as_mut_ptr()) };
+    (number, Places::of_figures(&figures))
+}
+
+/// The engine's converter to edition 2.
+pub fn site_to_edition_2(site: &[u8], target: &mut [u8]) -> u32 {
+    // SAFETY: the pointers and lengths are those of the two slices, which do not overlap.
+    unsafe { jurengate_site_to_edition_2(site.as_ptr(), site.len(), target.as_mut_ptr(), target.len()) }
+}
+
+/// The engine's converter to edition 1.
+pub fn site_to_edition_1(site: &[u8], target: &mut [u8]) -> u32 {
+    // SAFETY: the pointers and lengths are those of the two slices, which do not overlap.
+    unsafe { jurengate_site_to_edition_1(site.as_ptr(), site.len(), target.as_mut_ptr(), target.len()) }
 }
 
 /// The engine's book reader: its number and the rows, zeros if refused.

@@ -1,7 +1,7 @@
 //! Plain text figures for a card: `key = v` or `key = v v v v v v v`, in the units
 //! that people have on paper. Everything is read exactly, without fractions of the
-//! machine; what a line leaves out keeps its published default. A key of a food makes
-//! a foods block.
+//! machine; what a line leaves out keeps its published default. A key of a place makes
+//! a site file of edition 2, a key of a food a foods block.
 
 mod keys;
 mod needs;
@@ -18,7 +18,7 @@ pub use writing::text_of;
 
 use crate::cards::published;
 use crate::foods::Foods;
-use crate::site::SITE_FIELDS;
+use crate::site::{Places, SITE_FIELDS};
 
 /// The 94 fields of a site.
 type Fields = [u32; SITE_FIELDS];
@@ -28,14 +28,21 @@ type Fields = [u32; SITE_FIELDS];
 pub struct Card {
     /// The fields of its site file.
     pub site: Fields,
+    /// The places of its site file, if that is of edition 2.
+    pub places: Option<Places>,
     /// Its foods block, if it has one.
     pub foods: Option<Foods>,
 }
 
 impl Card {
-    /// The published default site, without a foods block.
+    /// The published default site, without places and without a foods block.
     pub fn published() -> Card {
-        Card { site: published::fields(), foods: None }
+        Card { site: published::fields(), places: None, foods: None }
+    }
+
+    /// Its places, which it now has: at first five without share and dust.
+    fn places_due(&mut self) -> &mut Places {
+        self.places.get_or_insert_with(Places::default)
     }
 
     /// Its foods block, which it now has: at first the published foods.

@@ -1,7 +1,7 @@
 //! The foods block (request 1): grams of fifteen foods by age, the lead in them, four local foods,
 //! and the diet intake that they give (E-4d to E-5v).
 
-use crate::block::{self, word16, word32, BLOCK_BYTES, FIELDS_AT, FIELD_BYTES};
+use crate::block::{self, word16, word32, Edition, BLOCK_BYTES, EDITION, FIELDS_AT, FIELD_BYTES};
 use crate::refusal::Refusal;
 use crate::site::AGES;
 
@@ -193,7 +193,7 @@ pub fn read_foods(foods: &[u8]) -> Result<Foods, Refusal> {
     if foods.len() != BLOCK_BYTES {
         return Err(Refusal::Length);
     }
-    block::inspect(foods, FOODS_NUMBER, RESERVED_AT)?;
+    block::inspect(foods, FOODS_NUMBER, &[Edition { number: EDITION, reserved_at: RESERVED_AT }])?;
     let figures = Foods::of_block(foods);
     if !figures.shares_fit() {
         return Err(Refusal::FoodShares);

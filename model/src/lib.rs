@@ -1,5 +1,5 @@
 //! An independent model of the counter box's engine, written from document 01
-//! ("The counter box: IEUBK in whole numbers"), requests 1, 2 and 4 to 6 of document 02 and the
+//! ("The counter box: IEUBK in whole numbers"), requests 1, 2 and 4 to 7 of document 02 and the
 //! agency's papers alone.
 //!
 //! The model is made to be read beside the paper, not to be fast: every sum is
@@ -17,6 +17,7 @@ pub mod book;
 pub mod card;
 pub mod cards;
 pub mod console;
+pub mod convert;
 pub mod demand3;
 pub mod engine;
 pub mod fast;

@@ -1,11 +1,12 @@
-//! Random sites and books, the same in every run; `foods` has random foods blocks, `survey` rows of batch cards, `damage` faults,
-//! `states` random states.
+//! Random sites and books, the same in every run; `foods` has random foods blocks, `survey` rows of batch cards, `yards` sites of
+//! either edition, `damage` faults, `states` random states.
 
 mod damage;
 mod foods;
 mod generator;
 mod states;
 mod survey;
+mod yards;
 
 pub use damage::{
     break_intake, break_row, damaged, damaged_with_foods, fault, fault_with_foods, file_faults, row_faults,
@@ -18,6 +19,7 @@ pub use survey::{
     any_row, break_texts, field_texts, group_row, group_text, joined, just_over, over, scratched, survey,
     survey_row, text_fault, text_faults, FieldTexts, TextFault, AGES_OUTSIDE, NO_FIGURES,
 };
+pub use yards::{places, scratched_site, yard, Yard};
 
 use crate::book::{column, RowFields, BOOK_ROWS, ROW_FIELDS};
 use crate::cards::{self, curves, published};
@@ -54,7 +56,7 @@ pub fn range(generator: &mut Generator) -> Range {
     Range::of_turn(generator.index(Range::ALL.len()))
 }
 
-/// The fields of a random site that 7 lets pass.
+/// The fields of a random site that 7 lets pass, without places.
 pub fn site_fields(generator: &mut Generator, range: Range) -> [u32; SITE_FIELDS] {
     let mut fields = match range {
         Range::Near => near_site(generator),
@@ -68,9 +70,9 @@ pub fn site_fields(generator: &mut Generator, range: Range) -> [u32; SITE_FIELDS
     fields
 }
 
-/// A random site file that is read without refusal.
+/// A random site file of either edition that is read without refusal.
 pub fn site(generator: &mut Generator, range: Range) -> Vec<u8> {
-    cards::site_file(&site_fields(generator, range))
+    yard(generator, range).file()
 }
 
 /// The published site with every figure scaled by up to two, modes free.
@@ -188,9 +190,9 @@ pub fn book(generator: &mut Generator, range: Range) -> Vec<u8> {
 
 /// The two files of a random card with this many faults in them.
 pub fn card(generator: &mut Generator, range: Range, faults: usize) -> (Vec<u8>, Vec<u8>) {
-    let (fields, rows) = (site_fields(generator, range), rows(generator, range));
+    let (yard, rows) = (yard(generator, range), rows(generator, range));
     let faults: Vec<Fault> = (0..faults).map(|_| fault(generator)).collect();
-    damaged(generator, &fields, &rows, &faults)
+    damaged(generator, yard, &rows, &faults)
 }
 
 /// The files of a random card with a foods block, with this many faults in them: site, foods, book.
@@ -199,10 +201,10 @@ pub fn card_with_foods(
     range: Range,
     faults: usize,
 ) -> (Vec<u8>, Vec<u8>, Vec<u8>) {
-    let (fields, rows) = (site_fields(generator, range), rows(generator, range));
+    let (yard, rows) = (yard(generator, range), rows(generator, range));
     let foods = foods(generator, range);
     let faults: Vec<Fault> = (0..faults).map(|_| fault_with_foods(generator)).collect();
-    damaged_with_foods(generator, &fields, &foods, &rows, &faults)
+    damaged_with_foods(generator, yard, &foods, &rows, &faults)
 }
 
 /// The files of a random card with this many faults in them, in one of two with a foods block: site, foods, book.

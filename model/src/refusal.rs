@@ -1,4 +1,4 @@
-//! The refusal numbers of document 01, "Calls and refusal numbers", and of requests 1 and 2.
+//! The refusal numbers of document 01, "Calls and refusal numbers", and of requests 1, 2 and 7.
 
 use std::fmt;
 
@@ -11,13 +11,13 @@ pub enum Refusal {
     BloodList = 2,
     /// A block's check is wrong.
     Check = 3,
-    /// A block's edition is not 1.
+    /// A block's edition is not 1, and not 2 either in a site file; or a converter's site file has not the one due.
     Edition = 4,
     /// A block's number is not the one due there.
     Number = 5,
     /// A reserved byte is not zero.
     Reserved = 6,
-    /// A site field, or the sum of the two water shares, is outside its limits.
+    /// A site field, the sum of the two water shares, or a share or dust figure of a place is outside its limits.
     SiteLimits = 7,
     /// A book row is outside its limits.
     BookLimits = 8,
@@ -29,6 +29,10 @@ pub enum Refusal {
     FoodLimits = 11,
     /// A card row has not twelve fields, or one that is over 8 bytes or no figure where one is due.
     CardRow = 12,
+    /// The shares of the five places are over 100 together.
+    PlaceShares = 13,
+    /// A share of a place is above 0, which edition 1 has no room for.
+    ShareAbove0 = 14,
     /// What was handed in is no state.
     NoState = 20,
     /// The state's month is 84 already.
@@ -53,7 +57,7 @@ impl fmt::Display for Refusal {
             Refusal::Length => "its length is wrong",
             Refusal::BloodList => "the list of blood figures is not 84 long",
             Refusal::Check => "the check of a block is wrong: it was damaged or changed",
-            Refusal::Edition => "the edition of a block is not 1",
+            Refusal::Edition => "the edition of a block is not one that is due there",
             Refusal::Number => "a block is not the one due there",
             Refusal::Reserved => "a reserved byte is not zero",
             Refusal::SiteLimits => "a figure is outside its limits",
@@ -62,6 +66,8 @@ impl fmt::Display for Refusal {
             Refusal::FoodShares => "fish and game together, or home-grown vegetable or fruit, are over 100 %",
             Refusal::FoodLimits => "an amount of a food, or the lead in it, is over its limit",
             Refusal::CardRow => "a row has not twelve fields, or one that is too long or no figure",
+            Refusal::PlaceShares => "the shares of the five places are over 100 % together",
+            Refusal::ShareAbove0 => "a share of a place is above 0, and edition 1 has no places",
             Refusal::NoState => "what was handed in is no state",
             Refusal::LastMonth => "the state's month is 84 already",
             Refusal::Burden => "the lead in the body is over its limit",

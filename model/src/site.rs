@@ -1,13 +1,24 @@
-//! The site file: one block of 94 fields, decoded into a scenario.
+//! The site file: one block of 94 fields and, in edition 2 (request 7), five places away from home, decoded into a
+//! scenario.
 
-use crate::block::{self, BLOCK_BYTES, FIELDS_AT, FIELD_BYTES};
+use crate::block::{self, Edition, BLOCK_BYTES, EDITION, FIELDS_AT, FIELD_BYTES};
 use crate::foods::Foods;
 use crate::refusal::Refusal;
 
-/// Fields in a site file.
+/// Fields in a site file, its places aside.
 pub const SITE_FIELDS: usize = 94;
-/// Where a site file's reserved bytes begin.
+/// Places away from home: work, school, daycare, second home, other.
+pub const PLACES: usize = 5;
+/// Figures of the places: a share and a dust figure each.
+pub const PLACE_FIGURES: usize = 2 * PLACES;
+/// Where the reserved bytes of edition 1 begin, and the places of edition 2.
 pub const RESERVED_AT: usize = FIELDS_AT + FIELD_BYTES * SITE_FIELDS;
+/// Where the reserved bytes of edition 2 begin.
+pub const RESERVED_2_AT: usize = RESERVED_AT + FIELD_BYTES * PLACE_FIGURES;
+/// The edition that has no places.
+pub const EDITION_1: Edition = Edition { number: EDITION, reserved_at: RESERVED_AT };
+/// The edition that has the places.
+pub const EDITION_2: Edition = Edition { number: 2, reserved_at: RESERVED_2_AT };
 /// Ages 0 to 6.
 pub const AGES: usize = 7;
 /// The site block's number.
@@ -71,6 +82,25 @@ pub mod place {
     pub const MOTHER: usize = 93;
 }
 
+/// Where each place stands among the five.
+pub mod away {
+    /// A parent's work.
+    pub const WORK: usize = 0;
+    /// School.
+    pub const SCHOOL: usize = 1;
+    /// Daycare.
+    pub const DAYCARE: usize = 2;
+    /// A second home.
+    pub const SECOND_HOME: usize = 3;
+    /// Anywhere else.
+    pub const OTHER: usize = 4;
+}
+
+/// The highest share of a place, and of the five together, hundredths.
+pub const PLACE_SHARES_MOST: u32 = 100;
+/// The highest dust figure of a place, thousandths of µg/g.
+pub const PLACE_DUST_MOST: u32 = 50_000_000;
+
 /// Lowest saturation, pg/day.
 pub const SATURATION_LEAST: u32 = 1_000_000;
 /// The two water shares together, hundredths.
@@ -116,26 +146,91 @@ pub fn within_limits(fields: &[u32; SITE_FIELDS]) -> bool {
     each && shares <= u64::from(SHARES_MOST)
 }
 
-/// Refusals 3 to 7 on a block of the right length.
-fn read_block(block: &[u8]) -> Result<[u32; SITE_FIELDS], Refusal> {
-    block::inspect(block, SITE_NUMBER, RESERVED_AT)?;
-    let mut fields = [0; SITE_FIELDS];
-    for (index, value) in fields.iter_mut().enumerate() {
-        *value = block::field(block, index);
+/// A place away from home.
+#[derive(Clone, Copy, Debug, Default, PartialEq, Eq)]
+pub struct Place {
+    /// Its share of the dust that is eaten, hundredths.
+    pub share: u32,
+    /// Its dust, thousandths of µg/g.
+    pub dust: u32,
+}
+
+/// The five places, in their order.
+#[derive(Clone, Copy, Debug, Default, PartialEq, Eq)]
+pub struct Places(pub [Place; PLACES]);
+
+impl Places {
+    /// The places of ten figures: share and dust of each.
+    pub fn of_figures(figures: &[u32; PLACE_FIGURES]) -> Places {
+        Places(std::array::from_fn(|at| Place { share: figures[2 * at], dust: figures[2 * at + 1] }))
     }
-    if within_limits(&fields) {
-        Ok(fields)
-    } else {
-        Err(Refusal::SiteLimits)
+
+    /// Share and dust of each place, as a file and the engine's reader have them.
+    pub fn figures(&self) -> [u32; PLACE_FIGURES] {
+        std::array::from_fn(|at| {
+            let place = self.0[at / 2];
+            [place.share, place.dust][at % 2]
+        })
+    }
+
+    /// The same shares, each place with the dust figure 0.
+    pub fn without_dust(&self) -> Places {
+        Places(self.0.map(|place| Place { dust: 0, ..place }))
+    }
+
+    /// Refusal 7: each share and each dust figure, that of a share of 0 too.
+    pub fn within_limits(&self) -> bool {
+        self.0.iter().all(|place| place.share <= PLACE_SHARES_MOST && place.dust <= PLACE_DUST_MOST)
+    }
+
+    /// The five shares together, hundredths.
+    pub fn shares(&self) -> u64 {
+        self.0.iter().map(|place| u64::from(place.share)).sum()
     }
 }
 
-/// The site reader: refusals 1 and 3 to 7, then the fields.
-pub fn read_site(site: &[u8]) -> Result<[u32; SITE_FIELDS], Refusal> {
+/// What a site file holds.
+#[derive(Clone, Copy, Debug, PartialEq, Eq)]
+pub struct SiteFile {
+    /// Its 94 fields.
+    pub fields: [u32; SITE_FIELDS],
+    /// Its places; those of edition 1 are all 0.
+    pub places: Places,
+}
+
+/// Refusal 1, then 3 to 7 and 13 of a site file that may have any of these editions.
+pub fn read_of_editions(site: &[u8], editions: &[Edition]) -> Result<SiteFile, Refusal> {
     if site.len() != BLOCK_BYTES {
         return Err(Refusal::Length);
     }
-    read_block(site)
+    let edition = block::inspect(site, SITE_NUMBER, editions)?;
+    let fields = std::array::from_fn(|index| block::field(site, index));
+    let mut places = Places::default();
+    if edition == EDITION_2 {
+        places = Places::of_figures(&std::array::from_fn(|at| block::field(site, SITE_FIELDS + at)));
+    }
+    if !within_limits(&fields) || !places.within_limits() {
+        return Err(Refusal::SiteLimits);
+    }
+    if places.shares() > u64::from(PLACE_SHARES_MOST) {
+        return Err(Refusal::PlaceShares);
+    }
+    Ok(SiteFile { fields, places })
+}
+
+/// The site reader: refusals 1, 3 to 7 and 13, then what a file of either edition holds.
+pub fn read_site_file(site: &[u8]) -> Result<SiteFile, Refusal> {
+    read_of_editions(site, &[EDITION_1, EDITION_2])
+}
+
+/// The 94 fields of a site file, or its refusal.
+pub fn read_site(site: &[u8]) -> Result<[u32; SITE_FIELDS], Refusal> {
+    read_site_file(site).map(|file| file.fields)
+}
+
+/// The places of a site file, or its refusal.
+pub fn read_places(site: &[u8]) -> Result<Places, Refusal> {
+    read_site_file(site).map(|file| file.places)
 }
 
 /// What an age of the child meets.
@@ -197,6 +292,15 @@ pub enum WaterSource {
     },
 }
 
+/// What a place away from home gives of the dust.
+#[derive(Clone, Copy, Debug, Default)]
+pub struct Away {
+    /// Its share of the dust that is eaten, hundredths.
+    pub share: u128,
+    /// Its dust, pg/mg.
+    pub dust: u128,
+}
+
 /// A site file's meaning.
 #[derive(Clone, Copy, Debug)]
 pub struct Site {
@@ -208,6 +312,8 @@ pub struct Site {
     pub weight_soil: u128,
     /// Dust source.
     pub dust_source: DustSource,
+    /// Places away from home, which take their shares of the dust from the house.
+    pub away: [Away; PLACES],
     /// Water source.
     pub water_source: WaterSource,
     /// Absorbed % of diet, water, dust, soil, alternate.
@@ -221,7 +327,13 @@ pub struct Site {
 }
 
 impl Site {
-    /// Decodes fields that passed the reader.
+    /// Decodes a file that passed the reader.
+    pub fn of_file(file: &SiteFile) -> Site {
+        let away = file.places.0.map(|place| Away { share: place.share.into(), dust: place.dust.into() });
+        Site { away, ..Site::of_fields(&file.fields) }
+    }
+
+    /// Decodes fields that passed the reader, without a place away from home.
     pub fn of_fields(fields: &[u32; SITE_FIELDS]) -> Site {
         let at = |index: usize| u128::from(fields[index]);
         let media = |from: usize| std::array::from_fn(|medium| at(from + medium));
@@ -230,6 +342,7 @@ impl Site {
             indoor: at(place::INDOOR),
             weight_soil: at(place::WEIGHT_SOIL),
             dust_source: dust_source(fields),
+            away: [Away::default(); PLACES],
             water_source: water_source(fields),
             absorbed: media(place::ABSORBED),
             passive: media(place::PASSIVE),

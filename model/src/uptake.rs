@@ -2,7 +2,7 @@
 
 use crate::book::Book;
 use crate::refusal::Refusal;
-use crate::site::{AgeFigures, DustSource, Site, WaterSource, EATEN_MEDIA};
+use crate::site::{AgeFigures, Away, DustSource, Site, WaterSource, EATEN_MEDIA, PLACES};
 
 /// Highest intake of air, water, soil, dust or diet, pg/day.
 pub const INTAKE_MOST: u128 = 1_000_000_000;
@@ -37,12 +37,31 @@ pub fn soil_intake(soil: u128, eaten: u128, weight_soil: u128) -> u128 {
     soil * eaten * weight_soil / 100
 }
 
-/// Dust intake (E-9).
-pub fn dust_intake(dust: u128, eaten: u128, weight_soil: u128) -> u128 {
-    dust * eaten * (100 - weight_soil) / 100
+/// The house's share of the dust, hundredths (E-9.5): what the five places leave of it.
+pub fn house_share(away: &[Away; PLACES]) -> u128 {
+    100 - away.iter().map(|place| place.share).sum::<u128>()
 }
 
-/// The dust figure: given, or from soil and air (E-11).
+/// The part of a house or place in the dust intake (E-9, E-12): its share in hundredths of the dust eaten, of its own dust.
+pub fn dust_part(dust: u128, eaten: u128, weight_soil: u128, share: u128) -> u128 {
+    dust * eaten * (100 - weight_soil) * share / 10_000
+}
+
+/// The six parts of the dust intake: the house, then the five places.
+pub fn dust_parts(dust: u128, eaten: u128, weight_soil: u128, away: &[Away; PLACES]) -> [u128; PLACES + 1] {
+    let mut parts = [dust_part(dust, eaten, weight_soil, house_share(away)); PLACES + 1];
+    for (part, place) in parts[1..].iter_mut().zip(away) {
+        *part = dust_part(place.dust, eaten, weight_soil, place.share);
+    }
+    parts
+}
+
+/// Dust intake (E-9, E-12): the six parts together.
+pub fn dust_intake(dust: u128, eaten: u128, weight_soil: u128, away: &[Away; PLACES]) -> u128 {
+    dust_parts(dust, eaten, weight_soil, away).iter().sum()
+}
+
+/// The house's dust figure: given, or from soil and air (E-11).
 pub fn dust_figure(figures: &AgeFigures, source: &DustSource) -> u128 {
     match *source {
         DustSource::Given => figures.dust,
@@ -67,7 +86,8 @@ pub fn intakes(site: &Site, age: usize) -> Result<Intakes, Refusal> {
     let air = air_intake(figures, site.indoor);
     let water = water_intake(figures.water_amount, &site.water_source);
     let soil = soil_intake(figures.soil, figures.eaten, site.weight_soil);
-    let dust = dust_intake(dust_figure(figures, &site.dust_source), figures.eaten, site.weight_soil);
+    let house_dust = dust_figure(figures, &site.dust_source);
+    let dust = dust_intake(house_dust, figures.eaten, site.weight_soil, &site.away);
     // Only a diet from foods can be over: a site's own is within its field's limit.
     if [air, water, soil, dust, figures.diet].iter().any(|&intake| intake > INTAKE_MOST) {
         return Err(Refusal::Intake);

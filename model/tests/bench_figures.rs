@@ -3,7 +3,7 @@
 use jurengate_model::block::{check_of, BODY_BYTES, EDITION_AT};
 use jurengate_model::book::{Row, D, ROW_FIELDS};
 use jurengate_model::kinetics::{birth_blood, birth_tissue, blood_figure, step, step_uptake};
-use jurengate_model::site::{AgeFigures, DustSource, WaterSource};
+use jurengate_model::site::{AgeFigures, Away, DustSource, WaterSource, PLACES};
 use jurengate_model::uptake::{
     age_of, air_intake, dust_figure, dust_intake, soil_intake, water_intake, Routes,
 };
@@ -27,7 +27,7 @@ fn multiple_source_dust() {
 
 #[test]
 fn dust() {
-    assert_eq!(dust_intake(150_000, 100, 45), 8_250_000);
+    assert_eq!(dust_intake(150_000, 100, 45, &[Away::default(); PLACES]), 8_250_000);
 }
 
 #[test]

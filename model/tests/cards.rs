@@ -152,9 +152,9 @@ fn the_keys_cover_the_figures_once() {
     let mut generator = Generator::new(61);
     for _ in 0..200 {
         let range = random::range(&mut generator);
-        let site = random::site_fields(&mut generator, range);
+        let random::Yard { fields: site, places } = random::yard(&mut generator, range);
         for foods in [None, Some(random::foods(&mut generator, range))] {
-            let card = Card { site, foods };
+            let card = Card { site, places, foods };
             assert_eq!(read(&text_of(&card)).map(|figures| figures.card), Ok(card));
         }
     }

@@ -195,7 +195,7 @@ fn several_faults_at_once() {
         met.insert(comparison.month_foods(&site, Some(&foods), &book, &state).number);
         met.insert(comparison.run_foods(&site, Some(&foods), &book, length).number);
     }
-    assert_eq!(met, BTreeSet::from([0, 1, 2, 3, 4, 5, 6, 7, 8, 9, 10, 11, 20, 21, 22]));
+    assert_eq!(met, BTreeSet::from([0, 1, 2, 3, 4, 5, 6, 7, 8, 9, 10, 11, 13, 20, 21, 22]));
 }
 
 #[test]

@@ -476,7 +476,7 @@ fn refused_files() {
         let (answer, _) = groups.call(&site, Some(&foods), &book, b"");
         assert_eq!(answer, GroupCall { rows: 0, decodes: fault.decodes(), next: 0 }, "{fault:?}");
     }
-    assert_eq!(numbers, BTreeSet::from([1, 3, 4, 5, 6, 7, 8, 10, 11]));
+    assert_eq!(numbers, BTreeSet::from([1, 3, 4, 5, 6, 7, 8, 10, 11, 13]));
     assert_eq!(counts, (0..=WHOLE).collect());
 }
 
@@ -595,7 +595,7 @@ fn random_groups_over_random_cards() {
     let mut groups = Groups::new("random groups");
     let mut generator = Generator::new(506);
     let (mut met, mut counts, mut skipped, mut full) = (BTreeSet::new(), BTreeSet::new(), 0, 0);
-    for turn in 0..1_500 {
+    for turn in 0..2_500 {
         let range = Range::of_turn(turn);
         let faults = if generator.once_in(4) { 1 + generator.index(3) } else { 0 };
         let (site, foods, book) = random::card_of_either_kind(&mut generator, range, faults);
@@ -609,7 +609,7 @@ fn random_groups_over_random_cards() {
         skipped += pairs.iter().filter(|pair| **pair == SKIPPED).count();
         met.extend(pairs.iter().filter(|pair| pair[0] == kind::REFUSED).map(|pair| pair[1]));
     }
-    assert_eq!(met, BTreeSet::from([1, 3, 4, 5, 6, 7, 8, 9, 10, 11, 12, 22]));
+    assert_eq!(met, BTreeSet::from([1, 3, 4, 5, 6, 7, 8, 9, 10, 11, 12, 13, 22]));
     assert_eq!(counts, (0..=WHOLE).collect());
     assert!(
         skipped > 300 && full > 50 && groups.bloods > 5_000,

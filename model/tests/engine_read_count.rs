@@ -142,7 +142,7 @@ fn every_earlier_refusal() {
     }
     let due = [
         (Turn::Lengths, vec![1]),
-        (Turn::Site, vec![3, 4, 5, 6, 7]),
+        (Turn::Site, vec![3, 4, 5, 6, 7, 13]),
         (Turn::Foods, vec![1, 3, 4, 5, 6, 10, 11]),
     ];
     let due =

@@ -2,10 +2,10 @@
 
 use jurengate_model::cards::{curves, published};
 use jurengate_model::foods::read_foods;
-use jurengate_model::random::{self, Generator};
-use jurengate_model::refusal::Refusal;
+use jurengate_model::random::{self, Generator, Range};
+use jurengate_model::refusal::{number_of, Refusal};
 use jurengate_model::state::{State, MONTHS};
-use jurengate_model::{engine, fast};
+use jurengate_model::{convert, engine, fast};
 
 /// Both runs over a list of known content.
 fn compare_runs(site: &[u8], foods: Option<&[u8]>, book: &[u8], length: usize) {
@@ -89,4 +89,27 @@ fn damaged_files_with_foods() {
         compare_runs(&site, Some(&foods), &book, length);
     }
     assert!(refused > 1_000, "{refused} foods blocks refused");
+}
+
+/// Both ways on whole and scratched files, with the target's content and length.
+#[test]
+fn random_conversions() {
+    let mut generator = Generator::new(46);
+    let mut met = [0; 15];
+    for turn in 0..6_000 {
+        let site = random::site(&mut generator, Range::of_turn(turn));
+        let site = if turn % 3 == 0 { site } else { random::scratched_site(&mut generator, site) };
+        let length = if generator.once_in(20) { generator.index(1_024) } else { 512 };
+        let ways: [[convert::Converter; 2]; 2] =
+            [[convert::to_edition_2, fast::to_edition_2], [convert::to_edition_1, fast::to_edition_1]];
+        for way in ways {
+            let [slow, fast] = way.map(|converter| {
+                let mut target = vec![77; length];
+                (converter(&site, &mut target), target)
+            });
+            assert_eq!(fast, slow);
+            met[number_of(&slow.0) as usize] += 1;
+        }
+    }
+    assert!([0, 1, 3, 4, 6, 7, 13, 14].iter().all(|&number| met[number] > 50), "{met:?}");
 }

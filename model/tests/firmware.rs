@@ -11,11 +11,14 @@ mod repository;
 
 use folder::Folder;
 use foods_printout::foods_printout;
+use jurengate_model::block::{BLOCK_BYTES, EDITION_AT};
 use jurengate_model::card::{answers, fields, rows, FIELD_MOST};
-use jurengate_model::cards::{curves, foods_file, published};
+use jurengate_model::cards::{curves, foods_file, published, site_file_2};
+use jurengate_model::convert::{to_edition_1, to_edition_2, Converter};
 use jurengate_model::engine;
 use jurengate_model::foods::food;
 use jurengate_model::group::{group, GROUP_ROWS};
+use jurengate_model::site::{read_site_file, Places, PLACE_FIGURES};
 use std::fs;
 use std::path::{Path, PathBuf};
 use std::process::Command;
@@ -84,6 +87,72 @@ fn the_foods_example_prints_what_the_model_says() {
         let printed = run(files.map(|(name, bytes)| folder.write(name, bytes)));
         assert_eq!(printed, foods_printout(site, foods, book));
         assert!(printed.ends_with(end), "{printed}");
+    }
+}
+
+/// What the example of the editions is to print for two files, and the file that it is to write.
+fn expected_editions(site: &[u8], book: &[u8]) -> (String, Option<Vec<u8>>) {
+    let file = match read_site_file(site) {
+        Ok(file) => file,
+        Err(refusal) => return (format!("refused {}\n", refusal.number()), None),
+    };
+    let names = ["work", "school", "daycare", "second home", "other"];
+    let places = names.iter().zip(file.places.0).filter(|(_, place)| place.share > 0);
+    let places: String = places
+        .map(|(name, place)| {
+            let (whole, part) = (place.dust / 1_000, place.dust % 1_000);
+            format!("{name}: {} % of the dust, {whole}.{part:03} ug/g\n", place.share)
+        })
+        .collect();
+    let head = format!("{places}house: {} % of the dust\n", 100 - file.places.shares());
+    let (way, converter): (_, Converter) = match site[EDITION_AT] {
+        1 => ("edition 1 to 2", to_edition_2),
+        _ => ("edition 2 to 1", to_edition_1),
+    };
+    let mut target = vec![0; BLOCK_BYTES];
+    if let Err(refusal) = converter(site, &mut target) {
+        return (format!("{head}{way}: refused {}\n", refusal.number()), None);
+    }
+    let mut blood = [0; 84];
+    let months = engine::run(site, book, &mut blood).months as usize;
+    let last = blood[..months].last().copied().unwrap_or(0);
+    (format!("{head}{way}: blood {last} before and after\n"), Some(target))
+}
+
+#[test]
+fn the_editions_example_prints_and_writes_what_the_model_says() {
+    let folder = Folder::new("editions-example");
+    let program = folder.path().join("editions");
+    c_program::build("examples/editions.c", &[], &program);
+    let (site, book) = (published::site(), curves::book());
+    let with =
+        |figures: [u32; PLACE_FIGURES]| site_file_2(&published::fields(), &Places::of_figures(&figures));
+    let daycare = fs::read(repository::at("samples/daycare/site.lkb")).expect("the sample");
+    let mut damaged = site.clone();
+    damaged[4] ^= 1;
+    let cards: [(&[u8], &[u8], &str); 8] = [
+        (&site, &book, "edition 1 to 2: blood 1"),
+        (&with([0, 7, 0, 0, 0, 8, 0, 0, 0, 9]), &book, "edition 2 to 1: blood 1"),
+        (&daycare, &book, "edition 2 to 1: refused 14\n"),
+        (
+            &with([20, 1, 20, 2, 20, 3, 20, 50_000_000, 20, 5]),
+            &book,
+            "house: 0 % of the dust\nedition 2 to 1: refused 14\n",
+        ),
+        (&with([100, 0, 1, 0, 0, 0, 0, 0, 0, 0]), &book, "refused 13\n"),
+        (&damaged, &book, "refused 3\n"),
+        (&[], &book, "refused 1\n"),
+        (&site, &[], "edition 1 to 2: blood 0 before and after\n"),
+    ];
+    for (site, book, part) in cards {
+        let target = folder.path().join("converted");
+        fs::remove_file(&target).ok();
+        let files = [folder.write("site", site), folder.write("book", book), target.clone()];
+        let output = Command::new(&program).args(files).output().expect("the example runs");
+        assert!(output.status.success(), "{}", String::from_utf8_lossy(&output.stderr));
+        let printed = String::from_utf8(output.stdout).expect("text");
+        assert_eq!((printed.clone(), fs::read(target).ok()), expected_editions(site, book));
+        assert!(printed.contains(part), "{printed}");
     }
 }
 

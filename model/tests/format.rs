@@ -12,14 +12,17 @@ use jurengate_model::block::{
 };
 use jurengate_model::book::{self, column, Row, RowFields, BLOCK_FIELDS, BLOCK_ROWS, ROW_FIELDS};
 use jurengate_model::card::{self, card_row, Form, CARD_FIELDS, FORMS, GOES};
-use jurengate_model::cards::{block_of, curves, foods_file, published};
+use jurengate_model::cards::{block_of, curves, foods_file, published, site_file_2};
 use jurengate_model::figures::KEYS;
 use jurengate_model::foods::{self, Foods, FOODS_FIGURES, FOODS_NUMBER};
 use jurengate_model::leaflet::{leaflet, Line};
 use jurengate_model::refusal::{Refusal, ACCEPTED};
-use jurengate_model::site::{self, AGES, SITE_FIELDS};
-use limits::{are_foods_ends, are_row_ends, are_site_ends, foods_bytes, number, BLOOD_VOLUME_MOST};
-use places::{Place, FOODS, ROW, SITE};
+use jurengate_model::site::{self, Away, Places, AGES, PLACES, SITE_FIELDS};
+use jurengate_model::uptake::{dust_parts, house_share};
+use limits::{
+    are_away_ends, are_foods_ends, are_row_ends, are_site_ends, foods_bytes, number, BLOOD_VOLUME_MOST,
+};
+use places::{Place, AWAY, FOODS, ROW, SITE};
 use std::fs;
 
 /// A row of a markdown table, cell by cell.
@@ -68,7 +71,7 @@ fn assert_gapless(places: &[Place], end: usize) {
 fn the_names_are_those_of_the_figures() {
     assert_gapless(&SITE, SITE_FIELDS);
     assert_gapless(&ROW, ROW_FIELDS);
-    let names = [&SITE[..], &FOODS].concat();
+    let names = [&SITE[..], &AWAY, &FOODS].concat();
     assert_eq!(KEYS.map(|key| key.name).to_vec(), names.iter().map(|place| place.0).collect::<Vec<_>>());
 }
 
@@ -91,6 +94,40 @@ fn the_site_fields_are_the_models() {
             assert!(are_site_ends(field, least, most), "{name}");
         }
     }
+}
+
+#[test]
+fn the_figures_of_the_places_are_the_models() {
+    let rows = table(&format(), &["bytes", "field", "name", "unit", "least", "most", "what"]);
+    assert_eq!(rows.len(), AWAY.len());
+    for (cells, (name, place, _)) in rows.iter().zip(AWAY) {
+        let field = SITE_FIELDS + place;
+        assert_eq!(cells[2], format!("`{name}`"));
+        assert_eq!(ends(&cells[0]), bytes_of(FIELDS_AT, field, 1), "{name}");
+        assert_eq!(ends(&cells[1]), (field, field), "{name}");
+        assert!(are_away_ends(place, count(&cells[4]), count(&cells[5])), "{name}");
+    }
+}
+
+/// House and places in the worked example of the dust intake, and their sum.
+#[test]
+fn the_worked_dust_comes_out() {
+    let page = format();
+    assert!(page.contains("An example: 100 mg eaten, weight_soil 45, house dust 150,000."));
+    let rows = table(&page, &["part", "share", "dust", "its lead"]);
+    let [house, places @ .., together] = &rows[..] else { panic!("a row for each part is due") };
+    let away: [Away; PLACES] = std::array::from_fn(|at| Away {
+        share: count(&places[at][1]).into(),
+        dust: count(&places[at][2]).into(),
+    });
+    let parts = dust_parts(count(&house[2]).into(), 100, 45, &away);
+    assert_eq!((places.len(), u128::from(count(&house[1]))), (PLACES, house_share(&away)));
+    for (cells, part) in rows.iter().zip(parts) {
+        assert_eq!(u128::from(count(&cells[3])), part, "{}", cells[0]);
+    }
+    assert_eq!(u128::from(count(&together[3])), parts.iter().sum::<u128>());
+    let shares: u32 = rows[..=PLACES].iter().map(|cells| count(&cells[1])).sum();
+    assert_eq!((shares, count(&together[1])), (100, 100));
 }
 
 /// A unit as the leaflet has it, which is ASCII.
@@ -222,7 +259,7 @@ fn the_formula_finds_every_number_of_a_book() {
 fn fields_end_and_reserved_bytes_begin_where_the_page_says() {
     let page = format();
     for (fields, words) in [
-        (SITE_FIELDS, "Bytes {first} to {last} are fields, bytes {reserved} to 507 reserved."),
+        (SITE_FIELDS, "In edition 1, bytes {first} to {last} are fields, bytes {reserved} to 507 reserved."),
         (BLOCK_FIELDS, "bytes {first} to {last} of the block;\nbytes {reserved} to 507 are reserved."),
     ] {
         let (first, last) = bytes_of(FIELDS_AT, 0, fields);
@@ -236,6 +273,11 @@ fn fields_end_and_reserved_bytes_begin_where_the_page_says() {
         foods::RESERVED_AT
     );
     assert!(page.contains(&words), "{words}");
+    let words = format!(
+        "Edition 2 has the same fields in the same bytes, five places behind them, and bytes {} to 507 reserved.",
+        site::RESERVED_2_AT
+    );
+    assert!(page.replace('\n', " ").contains(&words), "{words}");
     assert_eq!((BODY_BYTES, BLOCK_ROWS * ROW_FIELDS), (508, 115));
 }
 
@@ -269,7 +311,10 @@ fn the_other_checks_on_the_page_come_out() {
     let page = format();
     assert_eq!(check_of(&block_of(0, &[])), 2);
     assert_eq!(check_of(&block_of(FOODS_NUMBER, &[])), 3);
-    assert!(page.contains("A block of zeros with edition 1 has the check 2; with number 1 as well, 3."));
+    assert_eq!(check_of(&site_file_2(&[0; SITE_FIELDS], &Places::default())), 4);
+    assert!(page.contains(
+        "A block of zeros with edition 1 has the check 2; with number 1 as well, 3. One with edition 2 and number 0 has 4."
+    ));
     let site = published::site();
     let bytes = hexadecimal(&site[BODY_BYTES..BLOCK_BYTES]);
     assert!(page.contains(&format!("has the check 44,952,423, in bytes {bytes}.")));
@@ -328,6 +373,8 @@ fn the_refusals_are_the_models() {
         Refusal::FoodShares,
         Refusal::FoodLimits,
         Refusal::CardRow,
+        Refusal::PlaceShares,
+        Refusal::ShareAbove0,
         Refusal::NoState,
         Refusal::LastMonth,
         Refusal::Burden,

@@ -22,8 +22,8 @@ use jurengate_model::kinetics::blood_figure;
 use jurengate_model::refusal::{Refusal, ACCEPTED};
 use jurengate_model::state::{self, compartment, COMPARTMENTS, LEDGERS, MONTHS};
 use jurengate_model::{block, foods, site, uptake};
-use limits::{are_foods_ends, are_row_ends, are_site_ends, number, BLOOD_VOLUME_MOST};
-use places::{Place, CARD, FOODS, ROW, SITE, STATE};
+use limits::{are_away_ends, are_foods_ends, are_row_ends, are_site_ends, number, BLOOD_VOLUME_MOST};
+use places::{Place, AWAY, CARD, FOODS, ROW, SITE, STATE};
 use stack_bounds::{CARDS_STACK_BOUNDS, STACK_BOUNDS};
 use std::collections::BTreeSet;
 use std::fs;
@@ -35,7 +35,7 @@ const PREFIX: &str = "JURENGATE_";
 /// The include guards, which are no numbers.
 const GUARDS: [&str; 2] = ["JURENGATE_H", "JURENGATE_CARDS_H"];
 /// The version of the rows' interface.
-const CARDS_VERSION: [u128; 3] = [0, 2, 0];
+const CARDS_VERSION: [u128; 3] = [0, 3, 0];
 
 /// A name of the header and the number that it must have.
 type Named = (String, u128);
@@ -60,12 +60,14 @@ fn blood_most() -> u128 {
 
 /// Sizes and limits.
 fn sizes() -> Vec<Named> {
-    let sizes: [(&str, u128); 22] = [
+    let sizes: [(&str, u128); 24] = [
         ("BLOCK_BYTES", block::BLOCK_BYTES as u128),
         ("BODY_BYTES", block::BODY_BYTES as u128),
         ("EDITION", block::EDITION.into()),
+        ("PLACES_EDITION", site::EDITION_2.number.into()),
         ("SITE_BYTES", block::BLOCK_BYTES as u128),
         ("SITE_FIELDS", site::SITE_FIELDS as u128),
+        ("SITE_PLACES", site::PLACE_FIGURES as u128),
         ("AGES", site::AGES as u128),
         ("FOODS_BYTES", block::BLOCK_BYTES as u128),
         ("FOODS", foods::FOODS as u128),
@@ -107,6 +109,8 @@ fn refusals() -> Vec<Named> {
         ("INTAKE_TOO_LARGE", Refusal::Intake),
         ("SHARES_TOO_LARGE", Refusal::FoodShares),
         ("FOOD_OUTSIDE_LIMITS", Refusal::FoodLimits),
+        ("PLACES_OVER_100", Refusal::PlaceShares),
+        ("SHARE_ABOVE_0", Refusal::ShareAbove0),
         ("NO_STATE", Refusal::NoState),
         ("LAST_MONTH_DONE", Refusal::LastMonth),
         ("BURDEN_TOO_LARGE", Refusal::Burden),
@@ -134,7 +138,7 @@ fn prefixed(named: Vec<Named>) -> Vec<Named> {
 
 /// Every number that `jurengate.h` must name, with its value.
 fn all_named() -> Vec<Named> {
-    let places = [("SITE", &SITE[..]), ("FOODS", &FOODS), ("ROW", &ROW), ("STATE", &STATE)];
+    let places = [("SITE", &SITE[..]), ("PLACE", &AWAY), ("FOODS", &FOODS), ("ROW", &ROW), ("STATE", &STATE)];
     let places = places.map(|(kind, places)| named_places(kind, places));
     prefixed([version(), sizes(), stack_bounds(&STACK_BOUNDS), refusals(), places.concat()].concat())
 }
@@ -209,7 +213,7 @@ fn the_header_alone_is_clean_c_and_cpp() {
     compile_as_c_and_cpp("both-headers", "#include \"jurengate_cards.h\"\n#include \"jurengate.h\"\n");
 }
 
-/// The ten calls as the library has them: a pointer of another type is an error in both languages.
+/// The thirteen calls as the library has them: a pointer of another type is an error in both languages.
 #[test]
 fn the_declarations_are_those_of_the_library() {
     let text = r#"
@@ -228,11 +232,15 @@ struct calls {
                             uint64_t *, uint32_t *);
     uint32_t (*run_foods)(const uint8_t *, size_t, const uint8_t *, size_t, const uint8_t *, size_t,
                           uint32_t *, size_t, uint64_t *, uint32_t *);
+    uint32_t (*read_places)(const uint8_t *, size_t, uint32_t *);
+    uint32_t (*site_to_edition_2)(const uint8_t *, size_t, uint8_t *, size_t);
+    uint32_t (*site_to_edition_1)(const uint8_t *, size_t, uint8_t *, size_t);
 };
 struct calls calls = {
     jurengate_read_site, jurengate_read_book, jurengate_write_block,
     jurengate_birth, jurengate_month, jurengate_run,
-    jurengate_read_foods, jurengate_birth_foods, jurengate_month_foods, jurengate_run_foods
+    jurengate_read_foods, jurengate_birth_foods, jurengate_month_foods, jurengate_run_foods,
+    jurengate_read_places, jurengate_site_to_edition_2, jurengate_site_to_edition_1
 };
 "#;
     compile_as_c_and_cpp("declarations", text);
@@ -321,6 +329,15 @@ fn the_limits_beside_the_site_places_are_the_models() {
             assert!(are_site_ends(field, least, most), "{line}");
             assert_eq!((least, most), (site::least(field), site::most(field)), "{line}");
         }
+    }
+}
+
+#[test]
+fn the_limits_beside_the_figures_of_the_places_are_the_models() {
+    let header = header();
+    for (name, place, _) in AWAY {
+        let line = line_of(&header, &place_name("PLACE", name));
+        assert!(are_away_ends(place, 0, said(line, "at most ").expect(line)), "{line}");
     }
 }
 

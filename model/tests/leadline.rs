@@ -192,16 +192,21 @@ fn every_refusal_number() {
     let mut faults = vec![
         Fault::SiteCheck,
         Fault::SiteEdition,
+        Fault::SiteRelabelled,
         Fault::SiteNumber,
         Fault::SiteReserved,
         Fault::SiteField(0),
         Fault::Shares,
         Fault::SaturationLow,
+        Fault::PlaceShare(0),
+        Fault::PlaceDust(4),
+        Fault::PlaceShares,
         Fault::BlockCheck(16),
         Fault::BlockEdition(0),
         Fault::BlockNumber(7),
         Fault::BlockReserved(16),
         Fault::Intake(Intake::ConstantWater, 4),
+        Fault::PlaceIntake(2, 5),
     ];
     faults.extend(row_faults().into_iter().map(|each| Fault::Row(60, each)));
     for each in faults {

@@ -41,8 +41,9 @@ fn the_model_takes_what_the_leaflet_says_and_no_more() {
 
 /// Whether `makecard` has nothing to say of a site's figures, as a text that it reads and as a file that it shows.
 fn makecard_takes(fields: &[u32; SITE_FIELDS]) -> bool {
-    let read = site_fields(&text_of(&Card { site: *fields, foods: None }));
-    assert_eq!(read.is_ok(), outside_site(fields).is_empty(), "{read:?}");
+    let card = Card { site: *fields, ..Card::published() };
+    let read = site_fields(&text_of(&card));
+    assert_eq!(read.is_ok(), outside_site(&card).is_empty(), "{read:?}");
     read == Ok(*fields)
 }
 

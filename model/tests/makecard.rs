@@ -8,10 +8,12 @@ mod repository;
 mod samples;
 
 use folder::Folder;
-use jurengate_model::cards::{book_file, curves, foods_file, published, site_file};
+use jurengate_model::cards::{
+    book_file, curves, foods_file, published, site_file, site_file_2, site_file_with,
+};
 use jurengate_model::figures::{read, site_fields, text_of, Card};
 use jurengate_model::foods::{food, local};
-use jurengate_model::site::place;
+use jurengate_model::site::{away, place, Place, Places};
 use samples::{folders, stored};
 use std::fs;
 use std::path::Path;
@@ -44,7 +46,7 @@ fn warnings(figures: &str, folder: &Folder) -> Vec<String> {
     let told = makecard(&["yard.txt", "card"], folder);
     assert_eq!(told.status, Some(0), "{}", told.errors);
     let (card, made) = (read(figures).expect("figures").card, folder.path().join("card"));
-    assert!(stored(&made, "site.lkb") == site_file(&card.site));
+    assert!(stored(&made, "site.lkb") == site_file_with(&card.site, card.places.as_ref()));
     assert!(fs::read(made.join("foods.lkb")).ok() == card.foods.map(|foods| foods_file(&foods)));
     fs::remove_dir_all(made).expect("the card is taken away");
     told.errors.lines().map(str::to_string).collect()
@@ -86,12 +88,119 @@ fn foods_make_a_third_file() {
     assert!(stored(&card, "foods.lkb") == due[1].1);
 }
 
+/// A key of a place, even of one without a share, makes a site file of edition 2; without one it is of edition 1.
+#[test]
+fn places_make_a_site_file_of_edition_2() {
+    let folder = Folder::new("places");
+    let mut places = Places::default();
+    places.0[away::DAYCARE] = Place { share: 25, dust: 1_000_001 };
+    places.0[away::SECOND_HOME] = Place { share: 5, dust: 0 };
+    let cases = [
+        ("daycare_share = 25\ndaycare_dust = 1000.001\nsecond_home_share = 5\n", places),
+        ("other_share = 0\n", Places::default()),
+        ("work_dust = 0\n", Places::default()),
+    ];
+    for (figures, due) in cases {
+        folder.write("yard.txt", figures.as_bytes());
+        let wrote = "wrote ./site.lkb (512 bytes) and ./book.lkb (8704 bytes)\n";
+        assert_eq!(printed(makecard(&["yard.txt"], &folder)), wrote);
+        assert!(stored(folder.path(), "site.lkb") == site_file_2(&published::fields(), &due), "{figures}");
+        let shown = printed(makecard(&["--show", "."], &folder));
+        let card = Card { places: Some(due), ..Card::published() };
+        assert_eq!(
+            (shown.as_str(), read(&shown).map(|figures| figures.card)),
+            (text_of(&card).as_str(), Ok(card))
+        );
+    }
+    folder.write("yard.txt", b"soil = 200\n");
+    printed(makecard(&["yard.txt"], &folder));
+    assert!(stored(folder.path(), "site.lkb") == published::site());
+}
+
+/// Each key fills its own figure of its own place.
+#[test]
+fn each_key_of_a_place_fills_its_own_figure() {
+    let keys = [
+        ("work", away::WORK),
+        ("school", away::SCHOOL),
+        ("daycare", away::DAYCARE),
+        ("second_home", away::SECOND_HOME),
+        ("other", away::OTHER),
+    ];
+    for (name, at) in keys {
+        let mut due = Places::default();
+        due.0[at] = Place { share: 7, dust: 12_345 };
+        let text = format!("{name}_share = 7\n{name}_dust = 12.345\n");
+        assert_eq!(read(&text).expect("figures").card.places, Some(due), "{name}");
+    }
+}
+
+/// A card with places is shown with them, and with what rests beside them.
+#[test]
+fn a_card_with_places_is_shown_with_them() {
+    let folder = Folder::new("shown-places");
+    let places = Places::of_figures(&[0, 7_000, 40, 0, 60, 1_250_500, 0, 0, 0, 0]);
+    let card = Card { places: Some(places), ..Card::published() };
+    folder.write("site.lkb", &site_file_2(&card.site, &places));
+    folder.write("book.lkb", &curves::book());
+    let shown = printed(makecard(&["--show", "."], &folder));
+    let lines = [
+        "# work_share = 0  # 0 to 100 %; share of a parent's work in the dust eaten; the five shares at most 100",
+        "work_dust = 7  # 0 to 50000 µg/g; lead in dust of a parent's work; needs work_share over 0",
+        "school_share = 40  # 0 to 100 %; share of the school in the dust eaten",
+        "# school_dust = 0  # 0 to 50000 µg/g; lead in school dust",
+        "daycare_dust = 1250.5  # 0 to 50000 µg/g; lead in daycare dust",
+        "# air_to_dust = 100  # 0 to 10000 µg/g per µg/m³; dust lead per air lead; needs shares under 100",
+    ];
+    for line in lines {
+        assert!(shown.lines().any(|each| each == line), "{line}: {shown}");
+    }
+    assert_eq!(read(&shown).map(|figures| figures.card), Ok(card));
+}
+
+/// What is wrong with the places of a text and of a file.
+#[test]
+fn places_outside_their_limits_are_told() {
+    let folder = Folder::new("places-outside");
+    let all = "work_share, school_share, daycare_share, second_home_share and other_share are";
+    let texts = [
+        ("work_share = 101\n", "line 1: work_share: 101 is over the limit of 100 %\n".to_string()),
+        ("work_share = 1.5\n", "line 1: work_share: `1.5` must be a whole number\n".to_string()),
+        (
+            "other_dust = 50000.001\n",
+            "line 1: other_dust: 50000.001 is over the limit of 50000 µg/g\n".to_string(),
+        ),
+        ("other_dust = 0.0001\n", "line 1: other_dust: `0.0001` has more than 3 decimals\n".to_string()),
+        ("school_dust = 1 2\n", "line 1: school_dust takes one figure, not 2\n".to_string()),
+        ("daycare_share = 60\nother_share = 41\n\n", format!("line 2: {all} 101 % together, over 100 %\n")),
+        ("daycare = 60\n", "line 1: `daycare` is not a key; did you mean `daycare_share`?\n".to_string()),
+    ];
+    for (text, due) in texts {
+        folder.write("yard.txt", text.as_bytes());
+        let told = makecard(&["yard.txt"], &folder);
+        let due = format!(
+            "makecard: yard.txt: {due}makecard: no card was written; mend the lines above and run it again\n"
+        );
+        assert_eq!((told.status, told.errors), (Some(1), due));
+    }
+    let refusals = [
+        ([0, 0, 60, 1, 40, 0, 1, 0, 0, 0], format!("refused with 13: the shares of the five places are over 100 % together\n{all} 101 % together, over 100 %\n")),
+        ([0, 0, 0, 50_000_001, 101, 0, 0, 0, 0, 0], format!("refused with 7: a figure is outside its limits\nschool_dust: 50000.001 is over the limit of 50000 µg/g\ndaycare_share: 101 is over the limit of 100 %\n{all} 101 % together, over 100 %\n")),
+    ];
+    for (figures, due) in refusals {
+        folder.write("site.lkb", &site_file_2(&published::fields(), &Places::of_figures(&figures)));
+        let told = makecard(&["--show", "."], &folder);
+        let due: String = due.lines().map(|line| format!("makecard: ./site.lkb: {line}\n")).collect();
+        assert_eq!((told.status, told.output.as_str(), told.errors), (Some(1), "", due));
+    }
+}
+
 #[test]
 fn help_is_printed() {
     let folder = Folder::new("help");
     for option in ["--help", "-h"] {
         let help = printed(makecard(&[option], &folder));
-        for word in ["FIGURES", "--defaults", "--show FOLDER", "--help", "foods.lkb"] {
+        for word in ["FIGURES", "--defaults", "--show FOLDER", "--help", "foods.lkb", "daycare_share"] {
             assert!(help.contains(word), "{word}");
         }
     }
@@ -108,6 +217,8 @@ fn the_printed_defaults_are_the_published_site_with_its_limits() {
         "# passive_alternate = 20  # 0 to 100 %; passive share of what alternate gives; needs alternate over 0, absorbed_alternate over 0",
         "dust_mode = 1  # 0 to 1; 0 dust as given, 1 from soil and air",
         "saturation = 100  # 1 to 500 µg/day; half-saturation of the gut at 24 months",
+        "# work_share = 0  # 0 to 100 %; share of a parent's work in the dust eaten; the five shares at most 100",
+        "# daycare_dust = 0  # 0 to 50000 µg/g; lead in daycare dust; needs daycare_share over 0",
         "# meat_grams = 35 64 80 88 98 99 100  # 0 to 10000 g/day; meat, fish and game too",
         "# meat_lead = 0.004447  # 0 to 1 µg/g; lead in meat from the shop",
         "# fish_share = 0  # 0 to 100 %; share of fish in the meat, with game's at most 100",
@@ -136,6 +247,10 @@ fn no_warning_without_a_reason() {
         "fish_share = 30\nfish_lead = 0.1",
         "home_fruit_share = 100\nhome_fruit_lead = 0.1\nfresh_fruit_grams = 50",
         "fish_lead = 0",
+        "daycare_share = 25",
+        "daycare_share = 25\ndaycare_dust = 800",
+        "work_dust = 0",
+        "school_share = 100\nsoil = 300",
     ];
     for figures in used {
         assert!(warnings(figures, &folder).is_empty(), "{figures}");
@@ -169,6 +284,12 @@ fn a_figure_that_is_not_used_is_warned_of_with_what_to_add() {
         ("candy_grams = 0\ncandy_lead = 0.1", "line 2: candy_lead is not used. For it to count, change line 1 to `candy_grams = N` with N over 0 g/day (candy)"),
         ("home_vegetable_share = 100\nfresh_vegetable_lead = 0.1", "line 2: fresh_vegetable_lead is not used. For it to count, change line 1 to `home_vegetable_share = N` with N under 100 %"),
         ("fish_share = 60\ngame_share = 40\nmeat_lead = 0.1", "line 3: meat_lead is not used. For it to count, change line 1 to `fish_share = N` so that the two shares are under 100 %"),
+        ("daycare_dust = 500", "line 1: daycare_dust is not used. For it to count, add the line `daycare_share = N` with N over 0 % (share of the daycare"),
+        ("work_share = 0\nwork_dust = 9", "line 2: work_dust is not used. For it to count, change line 1 to `work_share = N` with N over 0 %"),
+        ("weight_soil = 100\nschool_share = 9", "line 2: school_share is not used. For it to count, change line 1 to `weight_soil = N` with N under 100 %"),
+        ("dust_mode = 0\ndaycare_share = 60\nwork_share = 40\ndust = 300", "line 4: dust is not used. For it to count, change line 3 to `work_share = N` so that the five shares are under 100 %"),
+        ("dust_mode = 0\nother_share = 100\ndust = 300", "line 3: dust is not used. For it to count, change line 2 to `other_share = N` so that the five shares are under 100 %"),
+        ("game_share = 100\nmeat_lead = 0.1", "line 2: meat_lead is not used. For it to count, change line 1 to `game_share = N` so that the two shares are under 100 %"),
         ("absorbed_diet = 0\nsauce_grams = 5", "line 2: sauce_grams is not used. For it to count, change line 1 to `absorbed_diet = N` with N over 0 %"),
     ];
     let folder = Folder::new("warnings");

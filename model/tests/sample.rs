@@ -186,13 +186,21 @@ fn every_refusal_has_its_words() {
     let cases = [
         (Fault::SiteCheck, "  site.lkb has a wrong check"),
         (Fault::BlockCheck(16), "  book.lkb, block 16 (months 80 to 84), has a wrong check"),
-        (Fault::SiteEdition, "  site.lkb is of another edition than 1"),
-        (Fault::BlockEdition(0), "  book.lkb, block 0 (months 0 to 4), is of another edition than 1"),
+        (Fault::SiteEdition, "  site.lkb is of an edition that the engine does not read"),
+        (
+            Fault::BlockEdition(0),
+            "  book.lkb, block 0 (months 0 to 4), is of an edition that the engine does not read",
+        ),
         (Fault::SiteNumber, "  site.lkb bears another block's number"),
         (Fault::BlockNumber(7), "  book.lkb, block 7 (months 35 to 39), bears another block's number"),
         (Fault::SiteReserved, "  site.lkb has a byte that is not zero"),
         (Fault::BlockReserved(1), "  book.lkb, block 1 (months 5 to 9), has a byte that is not zero"),
         (Fault::SiteField(0), "  site.lkb has a figure outside its limits"),
+        (Fault::PlaceDust(2), "  site.lkb has a figure outside its limits"),
+        (
+            Fault::PlaceShares,
+            "  site.lkb has five places away from home whose shares of the dust are over 100 %",
+        ),
         (row, "  book.lkb, block 12 (months 60 to 64), has a row"),
         (
             Fault::Intake(Intake::ConstantWater, 4),
@@ -356,10 +364,17 @@ fn a_survey_over_files_that_are_refused_is_told_once() {
     let row_fault = Fault::Row(60, row_faults()[0]);
     let cases = [
         (Fault::SiteCheck, "  site.lkb has a wrong check"),
-        (Fault::BlockEdition(0), "  book.lkb, block 0 (months 0 to 4), is of another edition than 1"),
+        (
+            Fault::BlockEdition(0),
+            "  book.lkb, block 0 (months 0 to 4), is of an edition that the engine does not read",
+        ),
         (Fault::BlockNumber(7), "  book.lkb, block 7 (months 35 to 39), bears another block's number"),
         (Fault::SiteReserved, "  site.lkb has a byte that is not zero"),
         (Fault::SiteField(0), "  site.lkb has a figure outside its limits"),
+        (
+            Fault::PlaceShares,
+            "  site.lkb has five places away from home whose shares of the dust are over 100 %",
+        ),
         (row_fault, "  book.lkb, block 12 (months 60 to 64), has a row"),
         (Fault::SiteLength(511), "  site.lkb has 511 bytes, and 512 are due"),
     ];

@@ -10,8 +10,11 @@ mod samples;
 use foods_printout::foods_printout;
 use jurengate_model::card::{card_printout, fields, rows};
 use jurengate_model::cards::{self, curves};
+use jurengate_model::engine::run;
 use jurengate_model::figures::read;
-use jurengate_model::printout::printout;
+use jurengate_model::printout::{decimals, printout};
+use jurengate_model::site::{away, read_site_file, PLACES};
+use jurengate_model::state::MONTHS;
 use samples::{folders, stored};
 use std::fs;
 
@@ -24,7 +27,8 @@ fn each_card_is_made_of_its_figures() {
     for sample in folders() {
         let figures = read(&text(stored(&sample, "figures.txt"))).expect("figures that makecard takes");
         let foods = figures.card.foods.map(|foods| cards::foods_file(&foods));
-        assert!(stored(&sample, "site.lkb") == cards::site_file(&figures.card.site), "{}", sample.display());
+        let site = cards::site_file_with(&figures.card.site, figures.card.places.as_ref());
+        assert!(stored(&sample, "site.lkb") == site, "{}", sample.display());
         assert!(stored(&sample, "book.lkb") == curves::book(), "{}", sample.display());
         assert!(fs::read(sample.join("foods.lkb")).ok() == foods, "{}", sample.display());
     }
@@ -100,6 +104,7 @@ fn the_programs_cards_are_samples() {
 #[test]
 fn the_samples_do_what_they_say() {
     let due = [
+        ("daycare", 84, 0, "84 2.5 - 1867527 7113572"),
         ("default", 84, 0, "84 1.7 - 1220950 4728846"),
         ("foods", 84, 0, "84 2.4 - 1772050 6766400"),
         ("heavy", 84, 50, "84 21.1 - 21287650 54190619"),
@@ -116,6 +121,30 @@ fn the_samples_do_what_they_say() {
         let name = sample.file_name().and_then(|name| name.to_str()).expect("a name");
         assert_eq!((name, lines.len(), marked, lines[lines.len() - 1]), due);
     }
+}
+
+/// The places of `daycare` double its highest month, as its text and the README of the samples say.
+#[test]
+fn the_daycare_sample_has_two_places_that_double_its_lead() {
+    let sample = repository::at("samples/daycare");
+    let [site, book] = ["site.lkb", "book.lkb"].map(|file| stored(&sample, file));
+    let file = read_site_file(&site).expect("a site file");
+    let there: Vec<(usize, u32, u32)> = (0..PLACES)
+        .map(|at| (at, file.places.0[at].share, file.places.0[at].dust))
+        .filter(|place| place.1 > 0)
+        .collect();
+    assert_eq!(there, [(away::WORK, 10, 2_200_000), (away::DAYCARE, 30, 850_500)]);
+    let highest = |site: &[u8]| {
+        let mut blood = [0; MONTHS];
+        assert_eq!(run(site, &book, &mut blood).number, 0);
+        decimals(*blood.iter().max().expect("84 months"))
+    };
+    let (with, without) = (highest(&site), highest(&cards::site_file(&file.fields)));
+    assert_eq!((with.as_str(), without.as_str()), ("6.0", "3.0"));
+    let figures = text(stored(&sample, "figures.txt")).replace("\n# ", " ");
+    let readme = text(fs::read(repository::at("samples/README.md")).expect("the README"));
+    assert!(figures.contains("the highest 6.0 µg/dL;") && figures.contains("it would be 3.0."));
+    assert!(readme.contains("the highest month is 6.0 µg/dL, and would be 3.0 with"));
 }
 
 /// The months in which more goes by the passive route than by the active one.

@@ -4,7 +4,7 @@ use jurengate_model::book::{read_book, Book};
 use jurengate_model::cards::{curves, published};
 use jurengate_model::figures::{Card, Key, Place, KEYS};
 use jurengate_model::foods::Foods;
-use jurengate_model::site::{place, Site, AGES};
+use jurengate_model::site::{self, place, Places, Site, SiteFile, AGES};
 use jurengate_model::uptake::day_uptake;
 
 /// The published site with every medium in it, each figure another.
@@ -15,6 +15,13 @@ fn full_site() -> Card {
     (card.site[place::FLUSHED], card.site[place::FIRST_DRAW], card.site[place::FOUNTAIN]) =
         (5_000, 20_000, 10_000);
     card
+}
+
+/// The same with every place in it, each with another dust.
+fn full_places() -> Card {
+    let (shares, dust) = ([10, 20, 15, 5, 10], [900_000, 400_000, 1_500_000, 250_000, 700_000]);
+    let places = Places(std::array::from_fn(|at| site::Place { share: shares[at], dust: dust[at] }));
+    Card { places: Some(places), ..full_site() }
 }
 
 /// The same with every food in it, each with another lead.
@@ -56,7 +63,7 @@ fn changed(card: &Card, (from, count, value): (usize, usize, u32)) -> Card {
 
 /// The day's uptake in the first month of every age.
 fn uptakes(card: &Card, book: &Book) -> Vec<u128> {
-    let site = Site::of_fields(&card.site);
+    let site = Site::of_file(&SiteFile { fields: card.site, places: card.places.unwrap_or_default() });
     let site = card.foods.map_or(site, |foods| site.with_foods(&foods));
     (0..AGES).map(|age| day_uptake(&site, book, 12 * age + 1).expect("no intake over its limit")).collect()
 }
@@ -72,11 +79,16 @@ fn moves(key: &Key, card: &Card, full: &Card, book: &Book) -> bool {
     })
 }
 
+/// Whether a key's figures, of fields or places, can move the uptake by their size.
+fn is_of_fields(key: &Key) -> bool {
+    let not_measured = [place::DUST_MODE, place::WATER_MODE, place::MOTHER].map(Place::Site);
+    !key.is_of_foods() && !not_measured.contains(&key.place)
+}
+
 #[test]
 fn a_figure_counts_just_when_the_uptake_moves_with_it() {
     let book = read_book(&curves::book()).expect("the realistic book");
-    let not_measured = [place::DUST_MODE, place::WATER_MODE, place::MOTHER].map(Place::Site);
-    let is_measured = |key: &&Key| !key.is_of_foods() && !not_measured.contains(&key.place);
+    let is_measured = |key: &&Key| is_of_fields(key) && !key.is_of_places();
     let mut resting = 0;
     for modes in 0..4 {
         let mut full = full_site();
@@ -102,6 +114,46 @@ fn a_figure_counts_just_when_the_uptake_moves_with_it() {
         }
     }
     assert!(resting > 4 * CHANGES.len(), "{resting}");
+}
+
+/// With places: every two of their figures at 0 or one of the changes above, and the places with the whole share.
+#[test]
+fn a_figure_counts_beside_places_just_when_the_uptake_moves_with_it() {
+    let book = read_book(&curves::book()).expect("the realistic book");
+    let places_keys = || KEYS.iter().filter(|key| key.is_of_places());
+    type Change<'a> = Box<dyn Fn(&mut Card) + 'a>;
+    let none = places_keys().map(|key| -> Change { Box::new(move |card| key.put(card, &[0])) });
+    let whole: Change = Box::new(|card| key_of(Place::AwayShare(site::away::WORK)).put(card, &[50]));
+    let of_fields = CHANGES.map(|change| -> Change { Box::new(move |card| *card = changed(card, change)) });
+    let changes: Vec<Change> = none.chain([whole]).chain(of_fields).collect();
+    let (mut resting, mut house_rests) = (0, 0);
+    for mode in 0..2 {
+        let mut full = full_places();
+        full.site[place::DUST_MODE] = mode;
+        for (index, first) in changes.iter().enumerate() {
+            for (other, second) in changes.iter().enumerate() {
+                let mut card = full.clone();
+                first(&mut card);
+                second(&mut card);
+                if card.site[place::CONTRIBUTION] + card.site[place::AIR_TO_DUST] == 0 {
+                    continue;
+                }
+                for key in KEYS.iter().filter(|key| is_of_fields(key)) {
+                    let counts = key.counts(&card);
+                    let due = moves(key, &card, &full_places(), &book);
+                    assert_eq!(counts, due, "{} {mode} {index} {other}", key.name);
+                    resting += usize::from(!counts);
+                    house_rests += usize::from(!counts && key.needs(&card).contains("shares under 100"));
+                }
+            }
+        }
+    }
+    assert!(resting > 2 * changes.len() && house_rests > 100, "{resting} {house_rests}");
+}
+
+/// The key of a place on a card.
+fn key_of(place: Place) -> &'static Key {
+    KEYS.iter().find(|key| key.place == place).expect("a key")
 }
 
 /// With foods: every two figures of the foods, or the diet's absorption, at 0, and each share at the whole.

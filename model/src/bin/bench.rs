@@ -5,11 +5,13 @@
 //! called alone: it is what a month call takes beyond the reading, over the month's steps. A group of
 //! rows stands beside a program that runs them one by one, over a book decoded anew for each.
 
+use jurengate_model::block::BLOCK_BYTES;
 use jurengate_model::cards::{self, curves, published};
 use jurengate_model::console::{asks_for_help, ended, misused, print, words};
 use jurengate_model::group::{kind, GROUP_ANSWERS, GROUP_ROWS};
 use jurengate_model::kinetics::{DAY_STEPS, MONTH_DAYS};
 use jurengate_model::refusal::ACCEPTED;
+use jurengate_model::site::{Place, Places};
 use jurengate_model::state::{State, MONTHS};
 use jurengate_model::{fast, ffi};
 use std::hint::black_box;
@@ -130,6 +132,59 @@ fn bench_foods(site: &[u8], book: &[u8], state: &State) -> io::Result<()> {
     )
 }
 
+/// Times the calls on a site file with five places, and the converters.
+fn bench_places(book: &[u8], state: &State) -> io::Result<()> {
+    let places = Places([Place { share: 7, dust: 123_456 }; 5]);
+    let (site, book) = (cards::site_file_2(&published::fields(), &places), black_box(book));
+    let site = black_box(site.as_slice());
+    let (mut engine_list, mut rust_list) = ([0; MONTHS], [0; MONTHS]);
+    let answer = ffi::run(site, book, &mut engine_list);
+    assert_eq!(answer, fast::run(site, book, &mut rust_list));
+    assert_eq!((engine_list, answer.number), (rust_list, ACCEPTED));
+    compare(
+        "whole run with places",
+        &mut || {
+            black_box(ffi::run(site, book, &mut engine_list));
+        },
+        &mut || {
+            black_box(fast::run(site, book, &mut rust_list));
+        },
+    )?;
+    compare(
+        "one month call with places",
+        &mut || {
+            black_box(ffi::month(site, book, state));
+        },
+        &mut || {
+            black_box(fast::month(site, book, state));
+        },
+    )?;
+    let one = published::site();
+    let (mut engine_target, mut rust_target) = ([0; BLOCK_BYTES], [0; BLOCK_BYTES]);
+    compare(
+        "a site file to edition 2",
+        &mut || {
+            black_box(ffi::site_to_edition_2(black_box(&one), black_box(&mut engine_target)));
+        },
+        &mut || {
+            black_box(fast::to_edition_2(black_box(&one), black_box(&mut rust_target)).ok());
+        },
+    )?;
+    assert_eq!(engine_target, rust_target);
+    let two = engine_target;
+    compare(
+        "a site file to edition 1",
+        &mut || {
+            black_box(ffi::site_to_edition_1(black_box(&two), black_box(&mut engine_target)));
+        },
+        &mut || {
+            black_box(fast::to_edition_1(black_box(&two), black_box(&mut rust_target)).ok());
+        },
+    )?;
+    assert_eq!((engine_target.as_slice(), rust_target.as_slice()), (one.as_slice(), one.as_slice()));
+    Ok(())
+}
+
 /// A row of a batch card with every figure, of this age.
 fn row(age: usize) -> Vec<u8> {
     format!("A1 7 8 {age} 200.5 150.25 4.125 0.1 1.5 3.2 30 30").into_bytes()
@@ -220,6 +275,7 @@ fn bench() -> io::Result<()> {
     compare("reading both files", &mut || engine_month(&last), &mut || rust_month(&last))?;
     compare_steps(&engine_month, &rust_month, &middle, &last)?;
     bench_foods(&site, &book, &middle)?;
+    bench_places(&book, &middle)?;
     bench_rows(&site, &book)?;
     bench_groups(&site, &book)
 }

@@ -1,12 +1,12 @@
 //! Makes `site.lkb`, `book.lkb` and, of foods, `foods.lkb` from plain text figures, and shows the figures of a card.
 
-use jurengate_model::block::{self, BLOCK_BYTES};
+use jurengate_model::block::{self, word16, BLOCK_BYTES, EDITION_AT};
 use jurengate_model::cards::{self, curves};
 use jurengate_model::console::{ended, misused, print};
 use jurengate_model::figures::{self, Card, Figures};
 use jurengate_model::foods::{read_foods, Foods};
 use jurengate_model::refusal::Refusal;
-use jurengate_model::site::{read_site, SITE_FIELDS};
+use jurengate_model::site::{read_site, Places, EDITION_2, SITE_FIELDS};
 use std::ffi::OsString;
 use std::fmt::Display;
 use std::fs;
@@ -28,6 +28,7 @@ usage: makecard FIGURES [FOLDER]   makes site.lkb and book.lkb in FOLDER (defaul
 
 A text has lines `key = figure`, or `key = ` and seven figures for ages 0 to 6; `#` begins a remark. What it leaves out
 keeps its published default. The book is always the one of the agency's growth curves and transfer times.
+A key of a place away from home, as daycare_share, makes site.lkb of edition 2; without one it is of edition 1.
 The foods give the diet in place of the figure `diet`, in the C calls that take them (examples/foods.c); leadline reads
 site.lkb and book.lkb alone.
 ";
@@ -61,7 +62,7 @@ fn make(figures_path: &Path, folder: &Path) -> Result<String, Messages> {
         warn(&figures_path.display(), &each);
     }
     fs::create_dir_all(folder).map_err(|why| vec![format!("{}: {why}", folder.display())])?;
-    let mut wrote = write(&folder.join(SITE_FILE), &cards::site_file(&figures.card.site))?;
+    let mut wrote = write(&folder.join(SITE_FILE), &site_of(&figures.card))?;
     let foods_path = folder.join(FOODS_FILE);
     if let Some(foods) = &figures.card.foods {
         wrote += &format!(", {}", write(&foods_path, &cards::foods_file(foods))?);
@@ -70,6 +71,11 @@ fn make(figures_path: &Path, folder: &Path) -> Result<String, Messages> {
     }
     let book = write(&folder.join(BOOK_FILE), &curves::book())?;
     Ok(format!("wrote {wrote} and {book}\n"))
+}
+
+/// The site file of a card: of edition 2 if it has places.
+fn site_of(card: &Card) -> Vec<u8> {
+    cards::site_file_with(&card.site, card.places.as_ref())
 }
 
 /// Tells of what does not stop the work.
@@ -85,7 +91,7 @@ fn write(path: &Path, bytes: &[u8]) -> Result<String, Messages> {
 
 /// The figures of a card as a text that makes it again.
 fn show(folder: &Path) -> Result<String, Messages> {
-    let text = figures::text_of(&Card { site: shown_site(folder)?, foods: shown_foods(folder)? });
+    let text = figures::text_of(&Card { foods: shown_foods(folder)?, ..shown_site(folder)? });
     let book = folder.join(BOOK_FILE);
     if fs::read(&book).is_ok_and(|book| book == curves::book()) {
         return Ok(text);
@@ -94,11 +100,20 @@ fn show(folder: &Path) -> Result<String, Messages> {
     Ok(format!("{OTHER_BOOK}{text}"))
 }
 
-/// The fields of a card's site file.
-fn shown_site(folder: &Path) -> Result<[u32; SITE_FIELDS], Messages> {
+/// A card's site file, fields and places.
+fn shown_site(folder: &Path) -> Result<Card, Messages> {
     let path = folder.join(SITE_FILE);
     let site = fs::read(&path).map_err(|why| vec![format!("{}: {why}", path.display())])?;
-    read_site(&site).map_err(|refusal| reasons(&path, refusal, &site))
+    read_site(&site).map_err(|refusal| reasons(&path, refusal, &site))?;
+    Ok(card_of(&site))
+}
+
+/// What a site file of 512 bytes says, whatever it is.
+fn card_of(site: &[u8]) -> Card {
+    let fields: [u32; SITE_FIELDS] = std::array::from_fn(|index| block::field(site, index));
+    let has_places = word16(site, EDITION_AT) == EDITION_2.number;
+    let figures = || std::array::from_fn(|at| block::field(site, SITE_FIELDS + at));
+    Card { site: fields, places: has_places.then(|| Places::of_figures(&figures())), foods: None }
 }
 
 /// A card's foods, if it has the file.
@@ -116,10 +131,7 @@ fn reasons(path: &Path, refusal: Refusal, file: &[u8]) -> Messages {
     let mut told = vec![refusal.to_string()];
     match refusal {
         Refusal::Length => told[0] += &format!(", {} bytes and not {BLOCK_BYTES}", file.len()),
-        Refusal::SiteLimits => {
-            let fields: [u32; SITE_FIELDS] = std::array::from_fn(|index| block::field(file, index));
-            told.extend(figures::outside_site(&fields));
-        }
+        Refusal::SiteLimits | Refusal::PlaceShares => told.extend(figures::outside_site(&card_of(file))),
         Refusal::FoodShares | Refusal::FoodLimits => {
             told.extend(figures::outside_foods(&Foods::of_block(file)));
         }

@@ -1,18 +1,22 @@
 //! Random cards, whole and damaged, run by the engine and by the model.
 //!
-//! Each card's book is read, and its foods block if it has one; then the card is run in one call and lived
+//! Each card's book is read, its foods block if it has one, its site file with the places, which is converted both
+//! ways, and the same file scratched; then the card is run in one call and lived
 //! again month by month, and some rows of a batch card are run over it, one by one and as a group. The engine must give
 //! the model's answers, and the same figures and last state both ways. Seed and number of a card make it, so that other seeds are other cards and one can be repeated alone.
 
+use jurengate_model::block::BLOCK_BYTES;
 use jurengate_model::book::{self, BOOK_ROWS, ROW_FIELDS};
 use jurengate_model::card;
 use jurengate_model::console::{asks_for_help, ended, misused, print, words};
+use jurengate_model::convert;
 use jurengate_model::engine::{self, RunAnswer};
 use jurengate_model::ffi;
 use jurengate_model::foods;
 use jurengate_model::group::{self, kind, GROUP_ANSWERS};
 use jurengate_model::random::{self, Generator};
 use jurengate_model::refusal::number_of;
+use jurengate_model::site::{self, SITE_FIELDS};
 use jurengate_model::state::MONTHS;
 use std::fmt::Debug;
 use std::process::ExitCode;
@@ -58,6 +62,10 @@ struct Tally {
     books: u64,
     accepted_books: u64,
     accepted_foods: u64,
+    sites: u64,
+    with_places: u64,
+    conversions: u64,
+    accepted_conversions: u64,
     births: u64,
     month_calls: u64,
     rows: u64,
@@ -79,6 +87,11 @@ impl Tally {
         lines.push(format!(
             "{} foods blocks compared, {} of them accepted",
             self.with_foods, self.accepted_foods
+        ));
+        lines.push(format!("{} site files compared, {} of them with places", self.sites, self.with_places));
+        lines.push(format!(
+            "{} conversions compared, {} of them accepted",
+            self.conversions, self.accepted_conversions
         ));
         lines.push(format!("{} births and {} month calls compared", self.births, self.month_calls));
         lines.push(format!(
@@ -139,6 +152,40 @@ fn read_foods(block: &[u8], tally: &mut Tally) -> Result<(), String> {
     let (number, _) = held("foods reader", ffi::read_foods(block), due)?;
     tally.with_foods += 1;
     tally.accepted_foods += u64::from(number == 0);
+    Ok(())
+}
+
+/// The engine's readers of a site file held to the model's.
+fn read_site(site: &[u8], tally: &mut Tally) -> Result<(), String> {
+    let fields = site::read_site(site);
+    let due = (number_of(&fields), fields.unwrap_or([0; SITE_FIELDS]));
+    held("site reader", ffi::read_site(site), due)?;
+    let places = site::read_places(site);
+    let due = (number_of(&places), places.unwrap_or_default());
+    let (_, places) = held("reader of the places", ffi::read_places(site), due)?;
+    tally.sites += 1;
+    tally.with_places += u64::from(places.shares() > 0);
+    Ok(())
+}
+
+/// A converter of the model and the engine's.
+type Converters = (convert::Converter, fn(&[u8], &mut [u8]) -> u32);
+
+/// A site file converted both ways, held to the model's with the whole target, which is mostly of the length due.
+fn convert(site: &[u8], generator: &mut Generator, tally: &mut Tally) -> Result<(), String> {
+    let ways: [(&str, Converters); 2] = [
+        ("to edition 2", (convert::to_edition_2, ffi::site_to_edition_2)),
+        ("to edition 1", (convert::to_edition_1, ffi::site_to_edition_1)),
+    ];
+    for (what, (by_model, by_engine)) in ways {
+        let length = if generator.once_in(10) { generator.index(2 * BLOCK_BYTES) } else { BLOCK_BYTES };
+        let (mut target, mut due_target) = (vec![BEFORE as u8; length], vec![BEFORE as u8; length]);
+        let due = number_of(&by_model(site, &mut due_target));
+        let number = held(what, by_engine(site, &mut target), due)?;
+        held("the target", target, due_target)?;
+        tally.conversions += 1;
+        tally.accepted_conversions += u64::from(number == 0);
+    }
     Ok(())
 }
 
@@ -211,11 +258,23 @@ fn group((site, foods, book): &Card, generator: &mut Generator, tally: &mut Tall
     Ok(())
 }
 
+/// A site file with the length due.
+fn sound_length(site: &[u8]) -> Vec<u8> {
+    let mut site = site.to_vec();
+    site.resize(BLOCK_BYTES, 0);
+    site
+}
+
 /// One card both ways, and rows over it.
 fn soak(seed: u32, number: u32, tally: &mut Tally) -> Result<(), String> {
     let mut generator = Generator::of_card(seed, number);
     let card = card(&mut generator);
     read_book(&card.2, tally)?;
+    let scratched = random::scratched_site(&mut generator, sound_length(&card.0));
+    for site in [&card.0, &scratched] {
+        read_site(site, tally)?;
+        convert(site, &mut generator, tally)?;
+    }
     if let Some(foods) = &card.1 {
         read_foods(foods, tally)?;
     }

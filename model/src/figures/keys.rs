@@ -4,13 +4,17 @@ use super::Card;
 use crate::cards::published;
 use crate::foods::{food, local, GRAMS_MOST, LEAD_MOST, LOCAL_SHARES_MOST};
 use crate::leaflet::leaflet;
-use crate::site::{place, AGES};
+use crate::site::{away, place, AGES, PLACE_DUST_MOST, PLACE_SHARES_MOST};
 
 /// What a key fills on a card.
 #[derive(Clone, Copy, Debug, PartialEq, Eq)]
 pub enum Place {
     /// Site fields, the first of which this is.
     Site(usize),
+    /// The share of one of the five places away from home.
+    AwayShare(usize),
+    /// The dust of one of the five places away from home.
+    AwayDust(usize),
     /// The grams of one of the fifteen foods, by age.
     Grams(usize),
     /// The lead of one of the fifteen foods.
@@ -21,7 +25,7 @@ pub enum Place {
     LocalLead(usize),
 }
 
-use Place::{Grams, Lead, LocalLead, Share, Site};
+use Place::{AwayDust, AwayShare, Grams, Lead, LocalLead, Share, Site};
 
 /// A key of the text format.
 #[derive(Clone, Copy, Debug)]
@@ -51,6 +55,16 @@ const fn single(
     Key { name, unit, meaning, place: Site(from), count: 1, decimals }
 }
 
+/// The share of a place away from home.
+const fn away_share(name: &'static str, meaning: &'static str, at: usize) -> Key {
+    Key { name, unit: "%", meaning, place: AwayShare(at), count: 1, decimals: 0 }
+}
+
+/// The dust of a place away from home.
+const fn away_dust(name: &'static str, meaning: &'static str, at: usize) -> Key {
+    Key { name, unit: "µg/g", meaning, place: AwayDust(at), count: 1, decimals: 3 }
+}
+
 /// A food's grams.
 const fn grams(name: &'static str, meaning: &'static str, food: usize) -> Key {
     Key { name, unit: "g/day", meaning, place: Grams(food), count: AGES, decimals: 0 }
@@ -73,8 +87,8 @@ impl Key {
     }
 }
 
-/// Every key, in the order of the site file, then of the foods block.
-pub const KEYS: [Key; 72] = [
+/// Every key, in the order of the site file, its places last, then of the foods block.
+pub const KEYS: [Key; 82] = [
     single("air", "µg/m³", "lead in outdoor air", place::AIR, 6).by_age(),
     single("hours_out", "h/day", "hours out of doors", place::HOURS_OUT, 0).by_age(),
     single("breathing", "m³/day", "air breathed", place::BREATHING, 3).by_age(),
@@ -115,6 +129,24 @@ pub const KEYS: [Key; 72] = [
     single("passive_alternate", "%", "passive share of what alternate gives", place::PASSIVE + 4, 0),
     single("saturation", "µg/day", "half-saturation of the gut at 24 months", place::SATURATION, 6),
     single("mother", "µg/dL", "mother's blood lead at birth", place::MOTHER, 3),
+    away_share(
+        "work_share",
+        "share of a parent's work in the dust eaten; the five shares at most 100",
+        away::WORK,
+    ),
+    away_dust("work_dust", "lead in dust of a parent's work", away::WORK),
+    away_share("school_share", "share of the school in the dust eaten", away::SCHOOL),
+    away_dust("school_dust", "lead in school dust", away::SCHOOL),
+    away_share("daycare_share", "share of the daycare in the dust eaten", away::DAYCARE),
+    away_dust("daycare_dust", "lead in daycare dust", away::DAYCARE),
+    away_share("second_home_share", "share of a second home in the dust eaten", away::SECOND_HOME),
+    away_dust("second_home_dust", "lead in dust of a second home", away::SECOND_HOME),
+    away_share(
+        "other_share",
+        "share of another place in the dust eaten; the rest is house dust",
+        away::OTHER,
+    ),
+    away_dust("other_dust", "lead in dust of another place", away::OTHER),
     grams("beverage_grams", "beverages", food::BEVERAGE),
     grams("bread_grams", "bread", food::BREAD),
     grams("canned_fruit_grams", "canned fruit, home-grown too", food::CANNED_FRUIT),
@@ -166,16 +198,24 @@ pub(super) fn key_of(place: Place) -> &'static Key {
 }
 
 impl Key {
-    /// Whether it is a figure of the foods block.
-    pub fn is_of_foods(&self) -> bool {
-        !matches!(self.place, Site(_))
+    /// Whether it is a figure of a place away from home.
+    pub fn is_of_places(&self) -> bool {
+        matches!(self.place, AwayShare(_) | AwayDust(_))
     }
 
-    /// Its figures on a card; those of foods that a card lacks are the published ones.
+    /// Whether it is a figure of the foods block.
+    pub fn is_of_foods(&self) -> bool {
+        !matches!(self.place, Site(_)) && !self.is_of_places()
+    }
+
+    /// Its figures on a card; those of foods that a card lacks are the published ones, those of places 0.
     pub fn of(&self, card: &Card) -> Vec<u32> {
+        let places = || card.places.unwrap_or_default().0;
         let foods = || card.foods.unwrap_or_else(published::foods);
         match self.place {
             Site(from) => card.site[from..from + self.count].to_vec(),
+            AwayShare(at) => vec![places()[at].share],
+            AwayDust(at) => vec![places()[at].dust],
             Grams(food) => foods().grams.map(|at_age| at_age[food].into()).to_vec(),
             Lead(food) => vec![foods().leads[food]],
             Share(local) => vec![foods().local_shares[local]],
@@ -183,10 +223,12 @@ impl Key {
         }
     }
 
-    /// Puts its figures, within their limits, on a card; a food's give the card a foods block.
+    /// Puts its figures, within their limits, on a card; a place's give the card places, a food's a foods block.
     pub fn put(&self, card: &mut Card, figures: &[u32]) {
         match self.place {
             Site(from) => card.site[from..from + self.count].copy_from_slice(figures),
+            AwayShare(at) => card.places_due().0[at].share = figures[0],
+            AwayDust(at) => card.places_due().0[at].dust = figures[0],
             Grams(food) => {
                 for (at_age, grams) in card.foods_due().grams.iter_mut().zip(figures) {
                     at_age[food] = u16::try_from(*grams).expect("grams within their limit");
@@ -206,10 +248,12 @@ impl Key {
         }
     }
 
-    /// The highest of its figures.
+    /// The highest of its figures. The leaflet has the 94 fields alone: the limits of places and foods are the model's.
     pub(super) fn most(&self) -> u32 {
         match self.place {
             Site(_) => leaflet().line(self.name).most,
+            AwayShare(_) => PLACE_SHARES_MOST,
+            AwayDust(_) => PLACE_DUST_MOST,
             Grams(_) => GRAMS_MOST.into(),
             Lead(_) | LocalLead(_) => LEAD_MOST,
             Share(_) => LOCAL_SHARES_MOST as u32,

@@ -13,15 +13,15 @@ pub(super) enum Need {
     Mode(usize, u32),
     /// A site figure, by its first field, over 0 at some age.
     Over0(usize),
-    /// A figure of the foods over 0, at some age.
-    FoodOver0(Place),
-    /// One or two shares that are less than the whole together, so that something is left for the rest.
+    /// A figure of a place or of the foods over 0, at some age.
+    KeyOver0(Place),
+    /// Shares that are less than the whole together, so that something is left for the rest.
     Rest(&'static [Place]),
     /// No foods block, whose diet takes the place of the site's.
     NoFoods,
 }
 
-use Need::{FoodOver0, Mode, NoFoods, Over0, Rest};
+use Need::{KeyOver0, Mode, NoFoods, Over0, Rest};
 
 impl Need {
     /// Whether a card meets it.
@@ -29,7 +29,7 @@ impl Need {
         match *self {
             Mode(at, number) => card.site[at] == number,
             Over0(from) => card_has(card, Place::Site(from)),
-            FoodOver0(place) => card_has(card, place),
+            KeyOver0(place) => card_has(card, place),
             Rest(shares) => shares.iter().map(|&share| key_of(share).of(card)[0]).sum::<u32>() < WHOLE,
             NoFoods => card.foods.is_none(),
         }
@@ -44,7 +44,7 @@ impl Need {
     fn key(&self) -> Option<&'static Key> {
         match *self {
             Mode(from, _) | Over0(from) => Some(key_of(Place::Site(from))),
-            FoodOver0(place) => Some(key_of(place)),
+            KeyOver0(place) => Some(key_of(place)),
             Rest(shares) => shares.first().map(|&share| key_of(share)),
             NoFoods => None,
         }
@@ -55,7 +55,7 @@ impl Need {
         let name = self.key().map_or("", |key| key.name);
         match self {
             Mode(_, number) => format!("{name} = {number}"),
-            Over0(_) | FoodOver0(_) => format!("{name} over 0"),
+            Over0(_) | KeyOver0(_) => format!("{name} over 0"),
             Rest([_]) => format!("{name} under {WHOLE}"),
             Rest(_) => format!("shares under {WHOLE}"),
             NoFoods => "the foods left out".to_string(),
@@ -66,17 +66,30 @@ impl Need {
     fn line(&self, key: &Key) -> String {
         match self {
             Mode(..) | NoFoods => format!("`{}` ({})", self.short(), key.meaning),
-            Over0(_) | FoodOver0(_) => {
+            Over0(_) | KeyOver0(_) => {
                 format!("`{} = N` with N over 0 {} ({})", key.name, key.unit, key.meaning)
             }
             Rest([_]) => format!("`{} = N` with N under {WHOLE} % ({})", key.name, key.meaning),
-            Rest(_) => format!("`{} = N` so that the two shares are under {WHOLE} %", key.name),
+            Rest(shares) => {
+                let how_many = if shares.len() == 2 { "two" } else { "five" };
+                format!("`{} = N` so that the {how_many} shares are under {WHOLE} %", key.name)
+            }
+        }
+    }
+
+    /// The key to change on a card: of shares that leave no rest, one that is there.
+    fn key_on(&self, card: &Card) -> Option<&'static Key> {
+        let share_of =
+            |shares: &[Place]| shares.iter().copied().find(|&share| card_has(card, share)).map(key_of);
+        match *self {
+            Rest(shares) => share_of(shares).or(self.key()),
+            _ => self.key(),
         }
     }
 
     /// What to do to a text so that it is met.
     pub(super) fn advice(&self, figures: &Figures) -> String {
-        let Some(key) = self.key() else {
+        let Some(key) = self.key_on(&figures.card) else {
             return format!("take out the foods ({})", foods_lines(figures));
         };
         match figures.lines[index_of(key.place)] {

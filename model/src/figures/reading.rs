@@ -5,7 +5,7 @@ use super::spelling::nearest_key;
 use super::{Card, Fields};
 use crate::foods::{local, Foods};
 use crate::leaflet::leaflet;
-use crate::site::{place, AGES};
+use crate::site::{away, place, AGES};
 use std::fmt;
 
 /// What is wrong with a text, and on which line, from 1.
@@ -26,8 +26,8 @@ impl fmt::Display for Mistake {
 /// What a text without mistakes says.
 #[derive(Clone, Debug, PartialEq, Eq)]
 pub struct Figures {
-    /// The card's figures; what the text leaves out has its published default, and without a key of a food there is
-    /// no foods block.
+    /// The card's figures; what the text leaves out has its published default, without a key of a place there are no
+    /// places, and without a key of a food there is no foods block.
     pub card: Card,
     /// The line that gives each key, in the order of `KEYS`, if one does.
     pub lines: [Option<usize>; KEYS.len()],
@@ -106,12 +106,19 @@ impl Key {
 }
 
 /// Shares of one amount, %, which are together at most the whole.
-type Shares = [Place; 2];
+type Shares = &'static [Place];
 
-const WATER_SHARES: Shares = [Place::Site(place::FIRST_DRAW_SHARE), Place::Site(place::FOUNTAIN_SHARE)];
-const MEAT_SHARES: Shares = [Place::Share(local::FISH), Place::Share(local::GAME)];
+const WATER_SHARES: Shares = &[Place::Site(place::FIRST_DRAW_SHARE), Place::Site(place::FOUNTAIN_SHARE)];
+const PLACE_SHARES: Shares = &[
+    Place::AwayShare(away::WORK),
+    Place::AwayShare(away::SCHOOL),
+    Place::AwayShare(away::DAYCARE),
+    Place::AwayShare(away::SECOND_HOME),
+    Place::AwayShare(away::OTHER),
+];
+const MEAT_SHARES: Shares = &[Place::Share(local::FISH), Place::Share(local::GAME)];
 
-/// The most of two shares together: the water's by the leaflet's rule, the meat's as of each alone.
+/// The most of some shares together: the water's by the leaflet's rule, the others' as of each alone.
 fn most_together(shares: Shares) -> u32 {
     if shares == WATER_SHARES {
         leaflet().shares_most
@@ -120,17 +127,19 @@ fn most_together(shares: Shares) -> u32 {
     }
 }
 
-/// What is wrong with two shares together.
+/// What is wrong with some shares together.
 fn shares_mistake(card: &Card, shares: Shares) -> Option<String> {
-    let [one, other] = shares.map(key_of);
-    let sum: u64 = [one, other].iter().map(|key| u64::from(key.of(card)[0])).sum();
+    let keys: Vec<&Key> = shares.iter().map(|&share| key_of(share)).collect();
+    let sum: u64 = keys.iter().map(|key| u64::from(key.of(card)[0])).sum();
     let most = most_together(shares);
-    let told = format!("{} and {} are {sum} % together, over {most} %", one.name, other.name);
+    let names: Vec<&str> = keys.iter().map(|key| key.name).collect();
+    let (last, others) = names.split_last().expect("two shares at least");
+    let told = format!("{} and {last} are {sum} % together, over {most} %", others.join(", "));
     (sum > most.into()).then_some(told)
 }
 
 /// Every figure of some keys that is outside its limits, and their shares, in words.
-fn outside<'a>(card: &Card, keys: impl Iterator<Item = &'a Key>, shares: Shares) -> Vec<String> {
+fn outside<'a>(card: &Card, keys: impl Iterator<Item = &'a Key>, shares: &[Shares]) -> Vec<String> {
     let mut told = Vec::new();
     for key in keys {
         for (age, value) in key.of(card).into_iter().enumerate() {
@@ -139,20 +148,19 @@ fn outside<'a>(card: &Card, keys: impl Iterator<Item = &'a Key>, shares: Shares)
             told.extend(key.limit_mistake(value.into(), &text));
         }
     }
-    told.extend(shares_mistake(card, shares));
+    told.extend(shares.iter().filter_map(|shares| shares_mistake(card, shares)));
     told
 }
 
-/// Every figure of a site file that is outside its limits, in words.
-pub fn outside_site(fields: &Fields) -> Vec<String> {
-    let card = Card { site: *fields, foods: None };
-    outside(&card, KEYS.iter().filter(|key| !key.is_of_foods()), WATER_SHARES)
+/// Every figure of a card's site file that is outside its limits, in words.
+pub fn outside_site(card: &Card) -> Vec<String> {
+    outside(card, KEYS.iter().filter(|key| !key.is_of_foods()), &[WATER_SHARES, PLACE_SHARES])
 }
 
 /// Every figure of a foods block that is outside its limits, in words.
 pub fn outside_foods(foods: &Foods) -> Vec<String> {
     let card = Card { foods: Some(*foods), ..Card::published() };
-    outside(&card, KEYS.iter().filter(|key| key.is_of_foods()), MEAT_SHARES)
+    outside(&card, KEYS.iter().filter(|key| key.is_of_foods()), &[MEAT_SHARES])
 }
 
 /// What to say of a word that is no key.
@@ -200,9 +208,10 @@ impl Reader {
         mistakes
     }
 
-    /// The sum of two shares, if both were read well.
+    /// The sum of some shares, if all were read well.
     fn hold_shares(&mut self, shares: Shares) {
-        let lines = shares.map(|share| self.figures.lines[index_of(share)]);
+        let lines: Vec<Option<usize>> =
+            shares.iter().map(|&share| self.figures.lines[index_of(share)]).collect();
         if self.mistakes.iter().any(|mistake| lines.contains(&Some(mistake.line))) {
             return;
         }
@@ -223,6 +232,7 @@ pub fn read(text: &str) -> Result<Figures, Vec<Mistake>> {
         reader.take(index + 1, line);
     }
     reader.hold_shares(WATER_SHARES);
+    reader.hold_shares(PLACE_SHARES);
     reader.hold_shares(MEAT_SHARES);
     reader.mistakes.sort_by_key(|mistake| mistake.line);
     if reader.mistakes.is_empty() {

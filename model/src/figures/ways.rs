@@ -3,10 +3,11 @@
 use super::keys::{Key, Place};
 use super::needs::Need;
 use crate::foods::{food, local, LOCAL_FOODS};
+use crate::site::away;
 use crate::site::place::*;
 
-use Need::{FoodOver0, Mode, NoFoods, Over0, Rest};
-use Place::{Grams, Lead, LocalLead, Share, Site};
+use Need::{KeyOver0, Mode, NoFoods, Over0, Rest};
+use Place::{AwayDust, AwayShare, Grams, Lead, LocalLead, Share, Site};
 
 const ABSORBED_DIET: usize = ABSORBED;
 const ABSORBED_WATER: usize = ABSORBED + 1;
@@ -25,6 +26,14 @@ const ONE_WATER: Need = Mode(WATER_MODE, 0);
 const THREE_WATERS: Need = Mode(WATER_MODE, 1);
 /// Less than the whole of what is eaten as soil, so that some is dust.
 const DUST_SHARE: Need = Rest(&[Site(WEIGHT_SOIL)]);
+/// Less than the whole of the dust from places away from home, so that some is the house's.
+const HOUSE_SHARE: Need = Rest(&[
+    AwayShare(away::WORK),
+    AwayShare(away::SCHOOL),
+    AwayShare(away::DAYCARE),
+    AwayShare(away::SECOND_HOME),
+    AwayShare(away::OTHER),
+]);
 /// Less than the whole of the water from first draw and fountain, so that some is flushed.
 const FLUSHED_SHARE: Need = Rest(&[Site(FIRST_DRAW_SHARE), Site(FOUNTAIN_SHARE)]);
 
@@ -34,10 +43,12 @@ type Way = &'static [Need];
 const BY_AIR: Way = &[Over0(BREATHING), Over0(AIR_ABSORBED)];
 const BY_SOIL: Way = &[Over0(EATEN), Over0(WEIGHT_SOIL), Over0(ABSORBED_SOIL)];
 const BY_DUST: Way = &[Over0(EATEN), DUST_SHARE, Over0(ABSORBED_DUST)];
-const BY_GIVEN_DUST: Way = &[GIVEN_DUST, Over0(EATEN), DUST_SHARE, Over0(ABSORBED_DUST)];
-const BY_MIXED_DUST: Way = &[MIXED_DUST, Over0(EATEN), DUST_SHARE, Over0(ABSORBED_DUST)];
-const AIR_BY_DUST: Way = &[MIXED_DUST, Over0(AIR_TO_DUST), Over0(EATEN), DUST_SHARE, Over0(ABSORBED_DUST)];
-const SOIL_BY_DUST: Way = &[MIXED_DUST, Over0(CONTRIBUTION), Over0(EATEN), DUST_SHARE, Over0(ABSORBED_DUST)];
+const BY_GIVEN_DUST: Way = &[GIVEN_DUST, HOUSE_SHARE, Over0(EATEN), DUST_SHARE, Over0(ABSORBED_DUST)];
+const BY_MIXED_DUST: Way = &[MIXED_DUST, HOUSE_SHARE, Over0(EATEN), DUST_SHARE, Over0(ABSORBED_DUST)];
+const AIR_BY_DUST: Way =
+    &[MIXED_DUST, Over0(AIR_TO_DUST), HOUSE_SHARE, Over0(EATEN), DUST_SHARE, Over0(ABSORBED_DUST)];
+const SOIL_BY_DUST: Way =
+    &[MIXED_DUST, Over0(CONTRIBUTION), HOUSE_SHARE, Over0(EATEN), DUST_SHARE, Over0(ABSORBED_DUST)];
 const BY_WATER: Way = &[Over0(WATER_AMOUNT), Over0(ABSORBED_WATER)];
 const BY_ONE_WATER: Way = &[ONE_WATER, Over0(WATER_AMOUNT), Over0(ABSORBED_WATER)];
 const BY_THREE_WATERS: Way = &[THREE_WATERS, Over0(WATER_AMOUNT), Over0(ABSORBED_WATER)];
@@ -103,18 +114,20 @@ pub(super) fn ways(key: &Key) -> Vec<Vec<Need>> {
     };
     let mut ways = match key.place {
         Site(from) => return site_ways(from).iter().map(|way| way.to_vec()).collect(),
+        AwayShare(_) => return vec![BY_DUST.to_vec()],
+        AwayDust(at) => return vec![[&[KeyOver0(AwayShare(at))], BY_DUST].concat()],
         Grams(food) => {
             let locals = (0..LOCAL_FOODS).filter(|&local| wholes(local).contains(&food));
-            let local_ways = locals.map(|local| vec![FoodOver0(Share(local)), FoodOver0(LocalLead(local))]);
-            [vec![FoodOver0(Lead(food)), from_shop(food)]].into_iter().chain(local_ways).collect()
+            let local_ways = locals.map(|local| vec![KeyOver0(Share(local)), KeyOver0(LocalLead(local))]);
+            [vec![KeyOver0(Lead(food)), from_shop(food)]].into_iter().chain(local_ways).collect()
         }
-        Lead(food) => vec![vec![FoodOver0(Grams(food)), from_shop(food)]],
+        Lead(food) => vec![vec![KeyOver0(Grams(food)), from_shop(food)]],
         Share(local) => {
-            let own = by_whole(local, &|food| [FoodOver0(LocalLead(local)), FoodOver0(Grams(food))]);
-            let spared = by_whole(local, &|food| [FoodOver0(Lead(food)), FoodOver0(Grams(food))]);
+            let own = by_whole(local, &|food| [KeyOver0(LocalLead(local)), KeyOver0(Grams(food))]);
+            let spared = by_whole(local, &|food| [KeyOver0(Lead(food)), KeyOver0(Grams(food))]);
             [own, spared].concat()
         }
-        LocalLead(local) => by_whole(local, &|food| [FoodOver0(Share(local)), FoodOver0(Grams(food))]),
+        LocalLead(local) => by_whole(local, &|food| [KeyOver0(Share(local)), KeyOver0(Grams(food))]),
     };
     // All food is absorbed as the diet is.
     ways.iter_mut().for_each(|way| way.push(Over0(ABSORBED_DIET)));

@@ -1,15 +1,20 @@
 //! Damaged files: each fault just out of bounds, sealed so that it alone is met.
 
 use super::foods::{foods_fault, FoodsFault};
-use super::{Generator, D, OUTFLOW_MOST};
-use crate::block::{BLOCK_BYTES, BODY_BYTES, EDITION_AT, NUMBER_AT};
+use super::{Generator, Yard, D, OUTFLOW_MOST};
+use crate::block::{word16, BLOCK_BYTES, BODY_BYTES, EDITION_AT, NUMBER_AT};
 use crate::book::{self, column, RowFields, BLOCK_ROWS, BOOK_BLOCKS, BOOK_ROWS};
 use crate::cards;
 use crate::foods::Foods;
-use crate::site::{self, place, AGES, SITE_FIELDS};
+use crate::site::{
+    self, place, Place, AGES, EDITION_1, EDITION_2, PLACES, PLACE_DUST_MOST, PLACE_SHARES_MOST, SITE_FIELDS,
+};
 
 /// 10^9 + 1, the least intake that refusal 9 stops, as products that fit the fields.
 pub(super) const PAST_INTAKE: [(u32, u32); 2] = [(77, 12_987_013), (1_001, 999_001)];
+
+/// The same for the dust of a place, whose figure holds for all ages: no other age eats as much.
+const PAST_PLACE: (u32, u32) = (247, 4_048_583);
 
 /// What is wrong with a row.
 #[derive(Clone, Copy, Debug, PartialEq, Eq)]
@@ -158,8 +163,10 @@ pub enum Fault {
     BookLength(usize),
     /// A bit of the site's check, or of its body, turned.
     SiteCheck,
-    /// Another edition of the site block.
+    /// An edition of the site block that is neither 1 nor 2.
     SiteEdition,
+    /// A site file of edition 2 with something in its places that says it is of edition 1.
+    SiteRelabelled,
     /// Another number of the site block.
     SiteNumber,
     /// A reserved byte of the site block.
@@ -170,6 +177,12 @@ pub enum Fault {
     Shares,
     /// Saturation one below its least.
     SaturationLow,
+    /// The share of a place 101.
+    PlaceShare(usize),
+    /// The dust of a place one over its limit.
+    PlaceDust(usize),
+    /// The shares of the five places together 101, none of them over 100.
+    PlaceShares,
     /// The check of a book block.
     BlockCheck(usize),
     /// The edition of a book block.
@@ -182,6 +195,8 @@ pub enum Fault {
     Row(usize, RowFault),
     /// An intake of an age over 10^9.
     Intake(Intake, usize),
+    /// The dust of an age over 10^9 by that of a place, which has the whole share.
+    PlaceIntake(usize, usize),
     /// Something of the foods block.
     Foods(FoodsFault),
 }
@@ -194,10 +209,12 @@ impl Fault {
             Fault::SiteCheck | Fault::BlockCheck(_) => 3,
             Fault::SiteEdition | Fault::BlockEdition(_) => 4,
             Fault::SiteNumber | Fault::BlockNumber(_) => 5,
-            Fault::SiteReserved | Fault::BlockReserved(_) => 6,
+            Fault::SiteReserved | Fault::SiteRelabelled | Fault::BlockReserved(_) => 6,
             Fault::SiteField(_) | Fault::Shares | Fault::SaturationLow => 7,
+            Fault::PlaceShare(_) | Fault::PlaceDust(_) => 7,
+            Fault::PlaceShares => 13,
             Fault::Row(..) => 8,
-            Fault::Intake(..) => 9,
+            Fault::Intake(..) | Fault::PlaceIntake(..) => 9,
             Fault::Foods(fault) => fault.number(),
         }
     }
@@ -211,7 +228,9 @@ impl Fault {
             | Fault::BlockNumber(n)
             | Fault::BlockReserved(n) => Turn::BookBlock(n),
             Fault::Row(month, _) => Turn::BookBlock(month / BLOCK_ROWS),
-            Fault::Intake(_, age) | Fault::Foods(FoodsFault::Diet(_, age)) => Turn::Age(age),
+            Fault::Intake(_, age) | Fault::PlaceIntake(_, age) | Fault::Foods(FoodsFault::Diet(_, age)) => {
+                Turn::Age(age)
+            }
             Fault::Foods(_) => Turn::Foods,
             _ => Turn::Site,
         };
@@ -246,16 +265,21 @@ pub enum Turn {
     Age(usize),
 }
 
-/// Every fault of the two files' lengths, of blocks' checks, editions, numbers and reserved bytes, and of site fields.
+/// Every fault of the two files' lengths, of blocks' checks, editions, numbers and reserved bytes, and of site fields and
+/// places.
 pub fn file_faults() -> Vec<Fault> {
     let mut faults = vec![
         Fault::SiteCheck,
         Fault::SiteEdition,
+        Fault::SiteRelabelled,
         Fault::SiteNumber,
         Fault::SiteReserved,
         Fault::Shares,
         Fault::SaturationLow,
+        Fault::PlaceShares,
     ];
+    faults.extend((0..PLACES).map(Fault::PlaceShare));
+    faults.extend((0..PLACES).map(Fault::PlaceDust));
     faults.extend([0, 1, 4, 508, 511, 513, 1024].map(Fault::SiteLength));
     faults.extend([0, 1, 512, 8_192, 8_703, 8_705, 9_216].map(Fault::BookLength));
     faults.extend((0..SITE_FIELDS).map(Fault::SiteField));
@@ -282,7 +306,7 @@ pub fn fault_with_foods(generator: &mut Generator) -> Fault {
 /// A fault of any kind in the two files.
 pub fn fault(generator: &mut Generator) -> Fault {
     let block = generator.index(BOOK_BLOCKS);
-    match generator.index(15) {
+    match generator.index(20) {
         0 => Fault::SiteLength(length_off(generator, BLOCK_BYTES)),
         1 => Fault::BookLength(length_off(generator, BOOK_BLOCKS * BLOCK_BYTES)),
         2 => Fault::SiteCheck,
@@ -300,7 +324,12 @@ pub fn fault(generator: &mut Generator) -> Fault {
             let faults = row_faults();
             Fault::Row(generator.index(BOOK_ROWS), faults[generator.index(faults.len())])
         }
-        _ => Fault::Intake(INTAKES[generator.index(INTAKES.len())], generator.index(AGES)),
+        14 => Fault::Intake(INTAKES[generator.index(INTAKES.len())], generator.index(AGES)),
+        15 => Fault::SiteRelabelled,
+        16 => Fault::PlaceShare(generator.index(PLACES)),
+        17 => Fault::PlaceDust(generator.index(PLACES)),
+        18 => Fault::PlaceShares,
+        _ => Fault::PlaceIntake(generator.index(PLACES), generator.index(AGES)),
     }
 }
 
@@ -319,32 +348,37 @@ pub(super) fn length_off(generator: &mut Generator, due: usize) -> usize {
 /// The two files of a card without a foods block, with faults in them.
 pub fn damaged(
     generator: &mut Generator,
-    fields: &[u32; SITE_FIELDS],
+    yard: impl Into<Yard>,
     rows: &[RowFields],
     faults: &[Fault],
 ) -> (Vec<u8>, Vec<u8>) {
-    let (site, _, book) = damaged_with_foods(generator, fields, &Foods::default(), rows, faults);
+    let (site, _, book) = damaged_with_foods(generator, yard, &Foods::default(), rows, faults);
     (site, book)
 }
 
 /// A site file, a foods block and a book with faults in them. Faults in fields go in first,
 /// then those in the blocks' frames, each sealed; then broken checks, then lengths, so that a
-/// later fault of the order never hides behind an earlier one that was not asked for.
+/// later fault of the order never hides behind an earlier one that was not asked for. A fault of
+/// a place makes a site file of edition 2.
 pub fn damaged_with_foods(
     generator: &mut Generator,
-    fields: &[u32; SITE_FIELDS],
+    yard: impl Into<Yard>,
     foods: &Foods,
     rows: &[RowFields],
     faults: &[Fault],
 ) -> (Vec<u8>, Vec<u8>, Vec<u8>) {
-    let (mut fields, mut foods) = (*fields, *foods);
+    let (mut yard, mut foods) = (yard.into(), *foods);
     let mut rows = rows.to_vec();
     for fault in in_field_order(faults) {
-        break_fields(&mut fields, &mut foods, &mut rows, fault);
+        break_fields(&mut yard, &mut foods, &mut rows, fault);
     }
-    let mut files = [cards::site_file(&fields), cards::foods_file(&foods), cards::book_file(&rows)];
+    let mut files = [yard.file(), cards::foods_file(&foods), cards::book_file(&rows)];
+    let edition = if yard.places.is_some() { EDITION_2 } else { EDITION_1 };
+    if faults.contains(&Fault::SiteRelabelled) {
+        put_edition(&mut files[0], EDITION_1.number);
+    }
     for fault in faults {
-        break_frame(generator, &mut files, *fault);
+        break_frame(generator, &mut files, edition.reserved_at, *fault);
     }
     for fault in faults {
         break_check(generator, &mut files, *fault);
@@ -361,22 +395,39 @@ pub fn damaged_with_foods(
 fn in_field_order(faults: &[Fault]) -> Vec<Fault> {
     let mut faults = faults.to_vec();
     faults.sort_by_key(|fault| match fault {
-        Fault::Intake(..) => (0, 0),
+        Fault::Intake(..) | Fault::PlaceIntake(..) => (0, 0),
         Fault::Foods(FoodsFault::Diet(_, age)) => (1, AGES - age),
-        Fault::SiteField(_) => (3, 0),
+        Fault::SiteField(_) | Fault::PlaceShare(_) | Fault::PlaceDust(_) => (3, 0),
+        Fault::SiteRelabelled => (4, 0),
         _ => (2, 0),
     });
     faults
 }
 
 /// Faults in what the fields say.
-fn break_fields(fields: &mut [u32; SITE_FIELDS], foods: &mut Foods, rows: &mut [RowFields], fault: Fault) {
+fn break_fields(yard: &mut Yard, foods: &mut Foods, rows: &mut [RowFields], fault: Fault) {
+    let fields = &mut yard.fields;
     match fault {
         Fault::SiteField(index) => fields[index] = site::most(index) + 1,
         Fault::Shares => (fields[place::FIRST_DRAW_SHARE], fields[place::FOUNTAIN_SHARE]) = (50, 51),
         Fault::SaturationLow => fields[place::SATURATION] = site::SATURATION_LEAST - 1,
         Fault::Row(month, fault) => break_row(&mut rows[month], fault),
         Fault::Intake(intake, age) => break_intake(fields, intake, age),
+        Fault::PlaceShare(at) => yard.places_due()[at].share = PLACE_SHARES_MOST + 1,
+        Fault::PlaceDust(at) => yard.places_due()[at].dust = PLACE_DUST_MOST + 1,
+        Fault::PlaceShares => {
+            yard.places_due().iter_mut().for_each(|place| place.share = 20);
+            yard.places_due()[PLACES - 1].share = 21;
+        }
+        Fault::PlaceIntake(at, age) => {
+            (fields[place::WEIGHT_SOIL], fields[place::EATEN + age]) = (0, PAST_PLACE.0);
+            yard.places_due().iter_mut().for_each(|place| place.share = 0);
+            yard.places_due()[at] = Place { share: PLACE_SHARES_MOST, dust: PAST_PLACE.1 };
+        }
+        Fault::SiteRelabelled => {
+            let places = yard.places_due();
+            places[0].dust = places[0].dust.max(1);
+        }
         Fault::Foods(fault) => fault.break_figures(foods),
         _ => {}
     }
@@ -385,12 +436,32 @@ fn break_fields(fields: &mut [u32; SITE_FIELDS], foods: &mut Foods, rows: &mut [
 /// The files of a card: site, foods, book.
 type Files = [Vec<u8>; 3];
 
+/// Puts another edition into a block and seals it.
+fn put_edition(block: &mut [u8], edition: u16) {
+    block[EDITION_AT..EDITION_AT + 2].copy_from_slice(&edition.to_le_bytes());
+    cards::seal(block);
+}
+
+/// Changes a site file's edition to one that there is not, and seals it.
+fn break_site_edition(generator: &mut Generator, site: &mut [u8]) {
+    break_word(generator, site, EDITION_AT);
+    let edition = word16(site, EDITION_AT);
+    if edition == EDITION_1.number || edition == EDITION_2.number {
+        put_edition(site, edition | 1 << 15);
+    }
+}
+
 /// Faults in edition, number and reserved bytes, the block sealed after each.
-fn break_frame(generator: &mut Generator, [site, foods, book]: &mut Files, fault: Fault) {
+fn break_frame(
+    generator: &mut Generator,
+    [site, foods, book]: &mut Files,
+    site_reserved_at: usize,
+    fault: Fault,
+) {
     match fault {
-        Fault::SiteEdition => break_word(generator, site, EDITION_AT),
+        Fault::SiteEdition => break_site_edition(generator, site),
         Fault::SiteNumber => break_word(generator, site, NUMBER_AT),
-        Fault::SiteReserved => break_reserved(generator, site, site::RESERVED_AT),
+        Fault::SiteReserved => break_reserved(generator, site, site_reserved_at),
         Fault::BlockEdition(n) => break_word(generator, block_mut(book, n), EDITION_AT),
         Fault::BlockNumber(n) => break_word(generator, block_mut(book, n), NUMBER_AT),
         Fault::BlockReserved(n) => break_reserved(generator, block_mut(book, n), book::RESERVED_AT),

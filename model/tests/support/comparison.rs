@@ -1,7 +1,8 @@
 //! Engine and model called on the same files, their answers compared and counted.
 
-use jurengate_model::block;
+use jurengate_model::block::{self, BLOCK_BYTES};
 use jurengate_model::card::{self, RowCall};
+use jurengate_model::convert;
 use jurengate_model::engine::{self, BirthAnswer, MonthAnswer, RunAnswer};
 use jurengate_model::ffi;
 use jurengate_model::foods;
@@ -41,6 +42,35 @@ impl Comparison {
         let fields = model.unwrap_or([0; SITE_FIELDS]);
         assert_eq!(ffi::read_site(site), (number_of(&model), fields), "{}", self.what);
         self.count(number_of(&model))
+    }
+
+    pub fn read_places(&mut self, site: &[u8]) -> u32 {
+        let model = site::read_places(site);
+        let places = model.unwrap_or_default();
+        assert_eq!(ffi::read_places(site), (number_of(&model), places), "{}", self.what);
+        self.count(number_of(&model))
+    }
+
+    pub fn convert_to_2(&mut self, site: &[u8], target_length: usize) -> u32 {
+        self.convert(convert::to_edition_2, ffi::site_to_edition_2, site, target_length)
+    }
+
+    pub fn convert_to_1(&mut self, site: &[u8], target_length: usize) -> u32 {
+        self.convert(convert::to_edition_1, ffi::site_to_edition_1, site, target_length)
+    }
+
+    fn convert(
+        &mut self,
+        by_model: convert::Converter,
+        by_engine: fn(&[u8], &mut [u8]) -> u32,
+        site: &[u8],
+        target_length: usize,
+    ) -> u32 {
+        let (mut due, mut target) = (vec![0x77; target_length], vec![0x77; target_length]);
+        let model = number_of(&by_model(site, &mut due));
+        assert_eq!(by_engine(site, &mut target), model, "{}", self.what);
+        assert_eq!(target, due, "{}", self.what);
+        self.count(model)
     }
 
     pub fn read_foods(&mut self, foods: &[u8]) -> u32 {
@@ -123,9 +153,17 @@ impl Comparison {
         answers.collect()
     }
 
+    /// Every call that takes a site file alone.
+    pub fn all_of_site(&mut self, site: &[u8]) {
+        self.read_site(site);
+        self.read_places(site);
+        self.convert_to_2(site, BLOCK_BYTES);
+        self.convert_to_1(site, BLOCK_BYTES);
+    }
+
     /// Every call that takes files.
     pub fn all(&mut self, site: &[u8], book: &[u8], state: &State) {
-        self.read_site(site);
+        self.all_of_site(site);
         self.birth(site, book);
         self.month(site, book, state);
         self.run(site, book, MONTHS);

@@ -2,9 +2,11 @@
 
 use jurengate_model::block::FIELD_BYTES;
 use jurengate_model::book::{column, Row, RowFields, ROW_FIELDS};
-use jurengate_model::cards::{foods_file, seal};
+use jurengate_model::cards::{foods_file, seal, site_file_2};
 use jurengate_model::foods::{read_foods, Foods, FOODS, GRAMS_AT, GRAMS_BYTES, LEADS_AT};
-use jurengate_model::site::{place, within_limits, AGES, SATURATION_LEAST, SITE_FIELDS};
+use jurengate_model::site::{
+    place, read_places, within_limits, Places, AGES, PLACE_FIGURES, SATURATION_LEAST, SITE_FIELDS,
+};
 use std::ops::Range;
 
 /// The largest blood volume of a row.
@@ -45,6 +47,16 @@ pub fn are_site_ends_by(
         let mut fields = free_fields();
         fields[place] = value;
         takes(&fields)
+    })
+}
+
+/// Whether a figure of the places has these ends if all others are 0.
+#[allow(dead_code)] // not every file of tests has places
+pub fn are_away_ends(place: usize, least: u32, most: u32) -> bool {
+    are_ends(least, most, |value| {
+        let mut figures = [0; PLACE_FIGURES];
+        figures[place] = value;
+        read_places(&site_file_2(&free_fields(), &Places::of_figures(&figures))).is_ok()
     })
 }
 

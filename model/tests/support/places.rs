@@ -1,9 +1,9 @@
-//! Every place of a site file, a foods block, a row, a state and a card's row by its name, as the model has it.
+//! Every place of a site file, its places away from home, a foods block, a row, a state and a card's row by its name, as the model has it.
 
 use jurengate_model::book::column;
 use jurengate_model::card::field;
 use jurengate_model::foods::{food, local, FOODS as FOOD_COUNT, LOCAL_FOODS};
-use jurengate_model::site::{place, AGES};
+use jurengate_model::site::{away, place, AGES};
 use jurengate_model::state::{compartment, ledger, COMPARTMENTS};
 
 /// A name, the first place that it stands for, and how many.
@@ -45,6 +45,21 @@ pub const SITE: [Place; 34] = [
     ("passive_alternate", place::PASSIVE + 4, 1),
     ("saturation", place::SATURATION, 1),
     ("mother", place::MOTHER, 1),
+];
+
+/// The figures of the places away from home: a share and a dust figure each.
+#[allow(dead_code)] // not every file of tests has them
+pub const AWAY: [Place; 10] = [
+    ("work_share", 2 * away::WORK, 1),
+    ("work_dust", 2 * away::WORK + 1, 1),
+    ("school_share", 2 * away::SCHOOL, 1),
+    ("school_dust", 2 * away::SCHOOL + 1, 1),
+    ("daycare_share", 2 * away::DAYCARE, 1),
+    ("daycare_dust", 2 * away::DAYCARE + 1, 1),
+    ("second_home_share", 2 * away::SECOND_HOME, 1),
+    ("second_home_dust", 2 * away::SECOND_HOME + 1, 1),
+    ("other_share", 2 * away::OTHER, 1),
+    ("other_dust", 2 * away::OTHER + 1, 1),
 ];
 
 /// Where the leads of the fifteen foods, the local shares and the local leads begin among the figures.

@@ -10,7 +10,7 @@ pub fn folders() -> Vec<PathBuf> {
     let paths = entries.map(|entry| entry.expect("an entry of the folder").path());
     let mut folders: Vec<PathBuf> = paths.filter(|path| path.is_dir()).collect();
     folders.sort();
-    assert!(folders.len() >= 6, "no sample may go missing");
+    assert!(folders.len() >= 7, "no sample may go missing");
     folders
 }
 

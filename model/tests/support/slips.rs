@@ -69,6 +69,7 @@ fn file_slips() -> Vec<Slip> {
     use FoodsFault::*;
     let mut faults = vec![Fault::SiteLength(0), Fault::SiteLength(511), Fault::BookLength(8_703)];
     faults.extend([Fault::SiteCheck, Fault::SiteEdition, Fault::SiteNumber, Fault::SiteReserved]);
+    faults.extend([Fault::SiteRelabelled, Fault::PlaceShare(0), Fault::PlaceDust(4), Fault::PlaceShares]);
     faults.extend([Fault::SiteField(place::AIR), Fault::SiteField(place::DIET + AGE)]);
     faults.extend([Fault::Shares, Fault::SaturationLow]);
     let foods = [Length(0), Length(511), Length(513), Check, Edition, Number, Reserved];
