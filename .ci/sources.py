@@ -38,6 +38,10 @@ C_LIBRARIES = ["jurengate"]
 # Calls that a request asks for by what they answer, though neither a program nor the C interface makes them: [6].
 ASKED = ["uptake::parts::day_routes", "routes::monthly_sums"]
 
+# Calls that stay open, though programs reach them through others (what is read of a file) or make others in their place (lines put into
+# lent bytes).
+KEPT = ["console::read_full", "printout::line", "cardline::put_lines_first"]
+
 # The head of a definition in a specs file.
 HEAD = r" *(?:(?:abbrev|unfoldable) pub|pub (?:record|data))"
 
@@ -171,9 +175,9 @@ def types_asked(signature):
 
 
 def calls():
-    """The open calls, which are those that a program or the C interface makes, the asked and the exported ones: (name, file, signature
-    and contract or None)."""
-    opened, own, exported = set(ASKED), [], []
+    """The open calls, which are those that a program or the C interface makes, the asked, the kept and the exported ones: (name, file,
+    signature and contract or None)."""
+    opened, own, exported = set(ASKED + KEPT), [], []
     for path in files("crates/*/src/**/*.rt"):
         lines = code(path)
         exports = re.findall(r'^pub extern "C" fn (\w+)', "\n".join(lines), re.M)

@@ -10,7 +10,7 @@ use Rattle.lines.specs.Stream.{start, after, ended, last}
 use Rattle.roll.specs.Words.{rows_a_group}
 use Rattle.survey.specs.Survey.{kept_answer}
 use Rattle.group.specs.Group.{roll_answers}
-use Rattle.cardline.specs.LinesRead.{LinesRead}
+use Rattle.cardline.specs.declared.LinesRead.{LinesRead}
 use Rattle.cardline.specs.Cardline.{row_line, joined}
 
 -- the lines of the first n rows on a roll; how many bytes they are, and how many blocks of the book are decoded for them

@@ -1,6 +1,5 @@
 -- What leadcard prints, as bytes, a group of lines at a time, and its laws.
 pub mod Cardline
-pub mod LinesRead
 pub mod Groups
 pub mod Internal
 pub mod Laws

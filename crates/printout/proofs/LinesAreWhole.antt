@@ -35,7 +35,7 @@ module _ (p : Prepared) (k : ℕ) where
   line_last h = rw (le-ltb k p.months (omega arith), eq-eqb k p.months h)
 
   -- past the last line
-  line_past : p.months < k → line_at p k ≡ []
+  pub line_past : p.months < k → line_at p k ≡ []
   unfolding line_at
   line_past h = rw (le-ltb k p.months (omega arith), ne_eqb k p.months (λ e. omega arith))
 

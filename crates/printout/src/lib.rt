@@ -1,7 +1,7 @@
 // What leadline prints, a line at a time, from the bytes of its two files. Reading files and writing bytes is left to the program.
 #![tactic(auto)]
 
-ghost use Rattle.std.specs.Prelude.{◌≡◌, get_or};
+ghost use Rattle.std.specs.Prelude.{◌≡◌, ◌++◌, length, drop, get_or};
 ghost use Rattle.refusal.specs.Refusal.{number_in};
 ghost use Rattle.files.specs.CallFiles.{files_in};
 ghost use Rattle.routes.specs.MonthlySums.{by_route};
@@ -79,4 +79,12 @@ impl Prepared {
             Line::new()
         }
     }
+}
+
+// Puts line k, from 0, at the start of the target, keeps the bytes past it, and answers its length: 0 past the last line.
+pub fn line(run: &Prepared, k: u32, target: &mut [u8; LINE_BYTES]) -> usize
+    ensures value { result ≡ length (line_at (prepared_in run.now) k) }
+    ensures target_after { target.new ≡ line_at (prepared_in run.now) k ++ drop (length (line_at (prepared_in run.now) k)) target.old }
+{
+    run.line(k).store_first(target)
 }

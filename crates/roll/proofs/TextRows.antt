@@ -169,7 +169,7 @@ module _ {text roll : List ℕ} {r : Reader} {n at : ℕ} (inv : InText text rol
   lines_all m full more e =
       sym (length-map (lines_of text) _) ∙ sym (ap length e) ∙ length-append (starts_in m full) more ∙ ap (◌+ length more) (starts_long m full)
 
-  rows_full : rows_a_group ≤ n → TextEnrolled text roll (record { count = n; next = at })
+  pub rows_full : rows_a_group ≤ n → TextEnrolled text roll (record { count = n; next = at })
   unfolding group_of line_start
   rows_full full =
       let whole : n ≡ rows_a_group = omega (arith, inv.reach) in

@@ -1,3 +1,4 @@
 -- Decimal digits.
 pub mod DecimalIsWritten
 pub mod Digits
+pub mod Puts

@@ -3,4 +3,5 @@ pub mod Characters
 pub mod Words
 pub mod Decimal
 pub mod Figure
+pub mod Internal
 pub mod Laws

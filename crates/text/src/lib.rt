@@ -2,9 +2,10 @@
 // `fmt::Write` it states its bytes where it succeeds, and std's trait has no clause to say that it does. These cannot fail.
 #![tactic(auto)]
 
-ghost use Rattle.std.specs.Prelude.{◌≡◌, ℕ, ◌+◌, ◌≤◌, ◌<◌, List, [], ◌∷◌, ◌++◌, length, take};
+ghost use Rattle.std.specs.Prelude.{◌≡◌, ℕ, ◌+◌, ◌≤◌, ◌<◌, List, [], ◌∷◌, ◌++◌, length, take, drop};
 ghost use Rattle.text.specs.Decimal.{digit, decimal};
 ghost use Rattle.text.specs.Figure.{tenths, figure};
+ghost use Rattle.text.specs.Internal.{Put};
 
 use std::marker::Model;
 
@@ -95,6 +96,72 @@ impl<const N: usize> Line<N> {
         self.put_byte(b'.');
         self.put_digit(rounded % 10);
     }
+
+    // Puts the line into lent bytes at a place, keeps every other byte, and answers the place past it.
+    pub fn store(&self, target: &mut [u8], place: usize) -> usize
+        requires { place + length self.now ≤ length target.old }
+        ensures { Put target.old place self.now (length self.now) target.new result }
+    {
+        put_text(target, place, self.bytes())
+    }
+
+    // Puts the line at the start of as many lent bytes as it may have, keeps those past it, and answers its length.
+    pub fn store_first(&self, target: &mut [u8; N]) -> usize
+        ensures value { result ≡ length self.now }
+        ensures target_after { target.new ≡ self.now ++ drop (length self.now) target.old }
+    {
+        let _room = self.put; // so that the line's bound is known
+        self.store(target, 0)
+    }
+}
+
+// What follows puts into lent bytes at a place, keeps every other byte, and answers the place past what it put.
+
+#[tactic(auto, using(crate::proofs::Puts::put_one))]
+pub fn put_byte(target: &mut [u8], place: usize, byte: u8) -> usize
+    requires { place < length target.old }
+    ensures { Put target.old place (byte ∷ []) 1 target.new result }
+{
+    target[place] = byte;
+    place + 1
+}
+
+// By number: the box has no `memmove`, which `copy_from_slice` would call for so many.
+pub fn put_text(target: &mut [u8], place: usize, text: &[u8]) -> usize
+    requires { place + length text.now ≤ length target.old }
+    ensures { Put target.old place text.now (length text.now) target.new result }
+{
+    for (at, byte) in text.iter().enumerate() {
+        target[place + at] = *byte;
+    }
+    place + text.len()
+}
+
+pub fn put_digit(target: &mut [u8], place: usize, n: u64) -> usize
+    requires { (n < 10) × (place < length target.old) }
+    ensures { Put target.old place (digit n ∷ []) 1 target.new result }
+{
+    put_byte(target, place, b'0' + n as u8)
+}
+
+// The digits of n.
+pub fn put_decimal(target: &mut [u8], place: usize, n: u64) -> usize
+    requires { (n < 10_000_000_000) × (place + 10 ≤ length target.old) }
+    ensures { Put target.old place (decimal n) 10 target.new result }
+{
+    let mut line: Line<10> = Line::new();
+    line.put_decimal(n);
+    line.store(target, place)
+}
+
+// A blood figure in ug/dL.
+pub fn put_figure(target: &mut [u8], place: usize, blood: u32) -> usize
+    requires { place + 12 ≤ length target.old }
+    ensures { Put target.old place (figure blood) 12 target.new result }
+{
+    let mut line: Line<12> = Line::new();
+    line.put_figure(blood);
+    line.store(target, place)
 }
 
 // A blood figure, thousandths of ug/dL, in tenths of ug/dL, rounded half up.
