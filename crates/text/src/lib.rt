@@ -1,5 +1,6 @@
-// Text in fixed memory: bytes, words, decimal numbers and blood figures, put one after the other. Not by `write!`: to a line that implements
-// `fmt::Write` it states its bytes where it succeeds, and std's trait has no clause to say that it does. These cannot fail.
+// Text in fixed memory: bytes, words, decimal numbers and blood figures, put one after the other into a line, or into lent bytes at a place. Not by
+// `write!`: to a line that implements `fmt::Write` it states its bytes where it succeeds, and std's trait has no clause to say that it does. These
+// cannot fail.
 #![tactic(auto)]
 
 ghost use Rattle.std.specs.Prelude.{◌≡◌, ℕ, ◌+◌, ◌≤◌, ◌<◌, List, [], ◌∷◌, ◌++◌, length, take, drop};
@@ -115,6 +116,13 @@ impl<const N: usize> Line<N> {
     }
 }
 
+// A blood figure, thousandths of ug/dL, in tenths of ug/dL, rounded half up.
+fn tenths_of(blood: u32) -> u64
+    ensures { result ≡ tenths blood }
+{
+    (u64::from(blood) + 50) / 100
+}
+
 // What follows puts into lent bytes at a place, keeps every other byte, and answers the place past what it put.
 
 #[tactic(auto, using(crate::proofs::Puts::put_one))]
@@ -162,11 +170,4 @@ pub fn put_figure(target: &mut [u8], place: usize, blood: u32) -> usize
     let mut line: Line<12> = Line::new();
     line.put_figure(blood);
     line.store(target, place)
-}
-
-// A blood figure, thousandths of ug/dL, in tenths of ug/dL, rounded half up.
-fn tenths_of(blood: u32) -> u64
-    ensures { result ≡ tenths blood }
-{
-    (u64::from(blood) + 50) / 100
 }
